@@ -1,0 +1,4 @@
+pub mod First
+pub mod Known
+pub mod Writing
+pub mod Answered

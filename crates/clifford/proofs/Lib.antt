@@ -1,0 +1,9 @@
+pub mod GateLaws
+pub mod Pairing
+pub mod Start
+pub mod Dependent
+pub mod Choices
+pub mod Spanning
+pub mod Fixed
+pub mod Running
+pub mod Alike

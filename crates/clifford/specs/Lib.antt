@@ -1,0 +1,4 @@
+pub mod Gates
+pub mod Tableau
+pub mod Measurement
+pub mod Run

@@ -1,0 +1,5 @@
+pub mod Sums
+pub mod Cases
+pub mod LetterLaws
+pub mod RowLaws
+pub mod Listed

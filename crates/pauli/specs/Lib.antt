@@ -1,0 +1,4 @@
+pub mod Sums
+pub mod Letters
+pub mod Rows
+pub mod Texts

@@ -1,0 +1,2 @@
+pub mod Product
+pub mod Parts

@@ -1,0 +1,176 @@
+//! The random cases: a mix of all seven functions over the material of
+//! `make` and `damage`. The same seed gives the same cases.
+
+use crate::circuit;
+use crate::damage;
+use crate::make;
+use crate::protocol::Case;
+use crate::random::Random;
+use crate::record;
+
+/// The length of a lent buffer: one byte too short, exactly long enough,
+/// longer, or any.
+fn buffer(random: &mut Random, needed: usize) -> usize {
+    match random.below(10) {
+        0 => needed.saturating_sub(1),
+        1..=4 => needed,
+        5 | 6 => needed + 1,
+        7 => needed + random.below(40),
+        8 => random.below(needed + 1),
+        _ => needed + 300,
+    }
+}
+
+fn some_circuit(random: &mut Random, damaged: usize) -> Vec<u8> {
+    let n = make::qubits(random);
+    if random.chance(damaged) {
+        damage::circuit(random, n)
+    } else {
+        make::circuit(random, n)
+    }
+}
+
+fn run(random: &mut Random) -> Case {
+    let text = some_circuit(random, 20);
+    let (needed, measured) = match circuit::parse(&text) {
+        Ok(found) => {
+            let measured = found.measurements();
+            (measured + record::distance_to_rows(found.n), measured)
+        }
+        Err(_) => (random.below(60), 3),
+    };
+    let coins = match random.below(10) {
+        0 => 0,
+        1 => random.below(measured + 1),
+        2 => measured / 2,
+        _ => measured + random.below(3),
+    };
+    let coins = random.bytes(coins);
+    let length = buffer(random, needed);
+    Case::Run(text, coins, length)
+}
+
+fn some_record(random: &mut Random, damaged: usize) -> Vec<u8> {
+    let n = make::qubits(random);
+    if random.chance(damaged) {
+        let mut bytes = Vec::new();
+        if random.chance(20) {
+            bytes = make::record(random, 2);
+        }
+        bytes.extend(damage::record(random, n));
+        bytes
+    } else {
+        make::archive(random, n)
+    }
+}
+
+fn record_length(bytes: &[u8]) -> usize {
+    match record::read(bytes) {
+        Ok(found) => found.length,
+        Err(_) => bytes.len(),
+    }
+}
+
+fn copy(random: &mut Random) -> Case {
+    let bytes = some_record(random, 30);
+    let length = buffer(random, record_length(&bytes));
+    Case::Copy(bytes, length)
+}
+
+fn patch_line(random: &mut Random, n: usize) -> Vec<u8> {
+    let mut line = make::operation_text(make::gate(random, n)).into_bytes();
+    match random.below(20) {
+        0 => line = random.one_of(&damage::MALFORMED).as_bytes().to_vec(),
+        1 => line = [random.one_of(&damage::MALFORMED).as_bytes(), b"\n"].concat(),
+        2 => line = format!("M {}\n", random.below(2 * n)).into_bytes(),
+        3 => {
+            let far = n + random.below(3);
+            let near = random.below(n);
+            line =
+                format!("CX {far} {}\n", if random.chance(50) { far } else { near }).into_bytes();
+        }
+        4 => {
+            let near = random.below(n);
+            line = format!("CZ {near} {near}\n").into_bytes();
+        }
+        5 => {
+            line.pop();
+        }
+        6 => line.push(random.byte()),
+        7 => damage::one_byte(random, &mut line),
+        _ => {}
+    }
+    line
+}
+
+fn patch(random: &mut Random) -> Case {
+    let bytes = some_record(random, 20);
+    let n = record::read(&bytes).map_or(1, |found| found.tableau.n);
+    let line = patch_line(random, n);
+    let length = buffer(random, record_length(&bytes));
+    Case::Patch(bytes, line, length)
+}
+
+/// A row text, sometimes with a byte that is not listed.
+fn row_text(random: &mut Random, length: usize, damaged: usize) -> Vec<u8> {
+    let mut text = make::row(random, length.saturating_sub(1)).text();
+    text.truncate(length);
+    if length > 0 && random.chance(damaged) {
+        let place = random.below(length);
+        text[place] = random.byte();
+    }
+    text
+}
+
+fn product(random: &mut Random) -> Case {
+    let length = if random.chance(20) {
+        *random.one_of(&[0, 1, 2, 64, 65, 66, 67])
+    } else {
+        random.between(2, 65)
+    };
+    let damaged = if random.chance(20) { 60 } else { 0 };
+    let first = row_text(random, length, damaged);
+    let unequal = if random.chance(8) { random.between(0, 67) } else { length };
+    let mut second = row_text(random, unequal, damaged);
+    if random.chance(15) {
+        second = first.clone();
+    }
+    let size = buffer(random, length);
+    Case::Product(first, second, size)
+}
+
+fn same(random: &mut Random) -> Case {
+    let n = make::qubits(random);
+    let (outcomes, tableau) = make::finished(random, n);
+    let mut other = tableau.clone();
+    let first = record::write(&outcomes, &tableau);
+    let place = random.below(n);
+    match random.below(10) {
+        0 => other.rows[n + place].minus = !other.rows[n + place].minus,
+        1 => other.rows[place].minus = !other.rows[place].minus,
+        2 => other.rows.swap(place, n + place),
+        3 => make::shuffle(random, &mut other),
+        4 => return Case::Same(first, make::record(random, n)),
+        5 => return Case::Same(first, some_record(random, 50)),
+        6 => return Case::Same(some_record(random, 90), first),
+        7 => return Case::Same(first, damage::record(random, n)),
+        8 => return Case::Same(damage::record(random, n), damage::record(random, 2)),
+        _ => {}
+    }
+    let count = random.below(4);
+    let mut second = make::record(random, 1);
+    second.extend(record::write(&make::outcomes(random, count), &other));
+    Case::Same(first, second)
+}
+
+pub fn case(random: &mut Random) -> Case {
+    match random.below(100) {
+        0..=11 => Case::Check(some_circuit(random, 60)),
+        12..=51 => run(random),
+        52..=63 => Case::Read(some_record(random, 50)),
+        64..=70 => copy(random),
+        71..=81 => patch(random),
+        82..=92 => product(random),
+        _ => same(random),
+    }
+}

@@ -1,0 +1,146 @@
+//! The circuit text: its lines, their words and numbers, and the refusals 1
+//! to 6 in the order document 01 gives.
+
+use crate::refusal::Refusal;
+
+pub const MOST_OPERATIONS: usize = 4096;
+pub const MOST_QUBITS: usize = 64;
+
+#[derive(Clone, Copy, PartialEq, Eq, Debug)]
+pub enum Operation {
+    H(usize),
+    S(usize),
+    X(usize),
+    Y(usize),
+    Z(usize),
+    CX(usize, usize),
+    CZ(usize, usize),
+    M(usize),
+}
+
+pub struct Circuit {
+    pub n: usize,
+    pub operations: Vec<Operation>,
+}
+
+impl Circuit {
+    pub fn measurements(&self) -> usize {
+        let is_m = |operation: &&Operation| matches!(operation, Operation::M(_));
+        self.operations.iter().filter(is_m).count()
+    }
+}
+
+/// One line without its end byte, and whether the end byte was there.
+pub struct Line<'a> {
+    pub bytes: &'a [u8],
+    pub ended: bool,
+}
+
+pub fn lines(text: &[u8]) -> Vec<Line<'_>> {
+    let mut found = Vec::new();
+    let mut start = 0;
+    for (place, byte) in text.iter().enumerate() {
+        if *byte == 10 {
+            found.push(Line { bytes: &text[start..place], ended: true });
+            start = place + 1;
+        }
+    }
+    if start < text.len() {
+        found.push(Line { bytes: &text[start..], ended: false });
+    }
+    found
+}
+
+/// One to three decimal digits, no leading zero except `0` itself.
+fn number(word: &[u8]) -> Option<usize> {
+    if word.is_empty() || word.len() > 3 {
+        return None;
+    }
+    if word.len() > 1 && word[0] == b'0' {
+        return None;
+    }
+    let mut value = 0;
+    for byte in word {
+        if !(b'0'..=b'9').contains(byte) {
+            return None;
+        }
+        value = value * 10 + (*byte - b'0') as usize;
+    }
+    Some(value)
+}
+
+fn first_line(line: Option<&Line>) -> Result<usize, Refusal> {
+    let refused = Err(Refusal::at(1, 1));
+    let Some(line) = line else {
+        return refused;
+    };
+    let words: Vec<&[u8]> = line.bytes.split(|byte| *byte == b' ').collect();
+    if !line.ended || words.len() != 2 || words[0] != b"Q" {
+        return refused;
+    }
+    match number(words[1]) {
+        None => refused,
+        Some(n) if n < 1 || n > MOST_QUBITS => Err(Refusal::at(2, 1)),
+        Some(n) => Ok(n),
+    }
+}
+
+/// The operation a line writes, whatever its qubits are.
+pub fn written(line: &Line) -> Option<Operation> {
+    if !line.ended {
+        return None;
+    }
+    let words: Vec<&[u8]> = line.bytes.split(|byte| *byte == b' ').collect();
+    let mut numbers = Vec::new();
+    for word in &words[1..] {
+        numbers.push(number(word)?);
+    }
+    match (words[0], numbers.as_slice()) {
+        (b"H", [a]) => Some(Operation::H(*a)),
+        (b"S", [a]) => Some(Operation::S(*a)),
+        (b"X", [a]) => Some(Operation::X(*a)),
+        (b"Y", [a]) => Some(Operation::Y(*a)),
+        (b"Z", [a]) => Some(Operation::Z(*a)),
+        (b"CX", [a, b]) => Some(Operation::CX(*a, *b)),
+        (b"CZ", [a, b]) => Some(Operation::CZ(*a, *b)),
+        (b"M", [a]) => Some(Operation::M(*a)),
+        _ => None,
+    }
+}
+
+/// The qubits an operation names.
+pub fn qubits(operation: Operation) -> Vec<usize> {
+    match operation {
+        Operation::H(a) | Operation::S(a) | Operation::M(a) => vec![a],
+        Operation::X(a) | Operation::Y(a) | Operation::Z(a) => vec![a],
+        Operation::CX(a, b) | Operation::CZ(a, b) => vec![a, b],
+    }
+}
+
+/// A line by the refusals 3, 4, 5.
+pub fn operation(line: &Line, n: usize, place: usize) -> Result<Operation, Refusal> {
+    let Some(operation) = written(line) else {
+        return Err(Refusal::at(3, place));
+    };
+    let named = qubits(operation);
+    if named.iter().any(|qubit| *qubit >= n) {
+        return Err(Refusal::at(4, place));
+    }
+    if named.len() == 2 && named[0] == named[1] {
+        return Err(Refusal::at(5, place));
+    }
+    Ok(operation)
+}
+
+pub fn parse(text: &[u8]) -> Result<Circuit, Refusal> {
+    let all = lines(text);
+    let n = first_line(all.first())?;
+    let mut operations = Vec::new();
+    for (index, line) in all.iter().enumerate().skip(1) {
+        if operations.len() == MOST_OPERATIONS {
+            return Err(Refusal::at(6, MOST_OPERATIONS + 2));
+        }
+        operations.push(operation(line, n, index + 1)?);
+    }
+    Ok(Circuit { n, operations })
+}

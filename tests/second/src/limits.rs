@@ -1,0 +1,150 @@
+//! The fixed sweeps over sizes: records and runs of every n from 1 to 64,
+//! circuits of 4,096 and 4,097 operations, records with the most outcomes,
+//! buffers around the needed length, and runs that lack a coin early, midway
+//! and at the end.
+
+use crate::circuit::{Operation, MOST_OPERATIONS};
+use crate::damage;
+use crate::make;
+use crate::protocol::Case;
+use crate::random::Random;
+use crate::record;
+use crate::tableau::Tableau;
+use std::io;
+
+type Write<'a> = &'a mut dyn FnMut(Case) -> io::Result<()>;
+
+pub fn all(write: Write) -> io::Result<()> {
+    every_n(write)?;
+    most_operations(write)?;
+    too_many_operations(write)?;
+    most_outcomes(write)?;
+    distances(write)?;
+    long_archive(write)?;
+    lacking_coins(write)
+}
+
+fn every_n(write: Write) -> io::Result<()> {
+    let mut random = Random::new(64);
+    for n in 1..=64 {
+        let operations = make::operations(&mut random, n, 8 * n + 8, 20);
+        let text = make::text(n, &operations);
+        let is_m = |operation: &&Operation| matches!(operation, Operation::M(_));
+        let measured = operations.iter().filter(is_m).count();
+        let needed = record::distance_to_rows(n) + measured;
+        let coins = random.bytes(measured + 1);
+        for lent in [needed - 1, needed, needed + 3] {
+            write(Case::Run(text.clone(), coins.clone(), lent))?;
+        }
+        let (outcomes, mut tableau) = make::finished(&mut random, n);
+        let plain = record::write(&outcomes, &tableau);
+        make::shuffle(&mut random, &mut tableau);
+        let shuffled = record::write(&outcomes, &tableau);
+        write(Case::Read([plain.clone(), shuffled.clone()].concat()))?;
+        write(Case::Copy(shuffled.clone(), shuffled.len()))?;
+        write(Case::Copy(plain.clone(), plain.len() - 1))?;
+        let line = make::operation_text(make::gate(&mut random, n)).into_bytes();
+        write(Case::Patch(shuffled.clone(), line, shuffled.len() + 1))?;
+        write(Case::Same(plain, shuffled))?;
+        damage::pairing(&mut random, &mut tableau);
+        write(Case::Read(record::write(b"", &tableau)))?;
+    }
+    Ok(())
+}
+
+fn most_operations(write: Write) -> io::Result<()> {
+    let mut random = Random::new(4096);
+    for (n, percent) in [(1, 50), (5, 30), (63, 3), (64, 20)] {
+        let operations = make::operations(&mut random, n, MOST_OPERATIONS, percent);
+        let text = make::text(n, &operations);
+        let coins = random.bytes(MOST_OPERATIONS);
+        write(Case::Check(text.clone()))?;
+        write(Case::Run(text.clone(), coins, 13_000))?;
+        let mut cut = text;
+        cut.pop();
+        write(Case::Check(cut))?;
+    }
+    let measured = ["Q 64\n".to_string(), "M 63\n".repeat(MOST_OPERATIONS)].concat();
+    write(Case::Run(measured.clone().into_bytes(), vec![], 12_428))?;
+    write(Case::Run(measured.into_bytes(), vec![], 12_427))
+}
+
+/// Bytes of all sorts after the 4,096th operation, and a bad line before.
+fn too_many_operations(write: Write) -> io::Result<()> {
+    let most = "Q 1\n".to_string() + &"H 0\n".repeat(MOST_OPERATIONS);
+    for value in [0, 1, 10, 32, 48, 72, 77, 200, 254, 255] {
+        let text = [most.as_bytes(), &[value]].concat();
+        write(Case::Check(text.clone()))?;
+        write(Case::Run(text, vec![1], 0))?;
+    }
+    for line in ["H 0\n", "M 0\n", "H 9\n", "CX 0 0\n", "h\n", "H 0", "H 0\nH 0\n"] {
+        write(Case::Check([most.as_bytes(), line.as_bytes()].concat()))?;
+    }
+    for line in ["H 1\n", "CX 0 0\n", "h 0\n"] {
+        let bad = "Q 1\n".to_string() + &"S 0\n".repeat(MOST_OPERATIONS - 1) + line;
+        write(Case::Check(bad.clone().into_bytes()))?;
+        write(Case::Check((bad + "H 0\n").into_bytes()))?;
+    }
+    Ok(())
+}
+
+fn most_outcomes(write: Write) -> io::Result<()> {
+    let mut random = Random::new(12_428);
+    for n in [1, 2, 64] {
+        for count in [MOST_OPERATIONS - 1, MOST_OPERATIONS, MOST_OPERATIONS + 1] {
+            let mut tableau = Tableau::start(n);
+            make::shuffle(&mut random, &mut tableau);
+            let mut bytes = record::write(&make::outcomes(&mut random, count), &tableau);
+            write(Case::Read(bytes.clone()))?;
+            write(Case::Copy([&bytes[..], &bytes[..]].concat(), bytes.len()))?;
+            bytes[count - 1] = b'4';
+            write(Case::Read(bytes.clone()))?;
+            bytes[0] = b'I';
+            write(Case::Read(bytes))?;
+        }
+    }
+    Ok(())
+}
+
+/// Trailers whose n and distances lie around the ones that hold.
+fn distances(write: Write) -> io::Result<()> {
+    let sound = record::write(b"0123", &Tableau::start(3).gate(Operation::H(1)));
+    let bytes = [&sound[..], &sound[..]].concat();
+    let at = bytes.len() - record::TRAILER;
+    for (first, length) in [(at, 4), (at + 4, 4), (at + 8, 2)] {
+        for place in first..first + length {
+            for step in [1, 2, 3, 4, 5, 252, 253, 254, 255] {
+                let mut changed = bytes.clone();
+                changed[place] = changed[place].wrapping_add(step);
+                write(Case::Read(changed))?;
+            }
+        }
+    }
+    Ok(())
+}
+
+/// A record far behind the start of the lent bytes.
+fn long_archive(write: Write) -> io::Result<()> {
+    let sound = record::write(b"021", &Tableau::start(2).gate(Operation::H(0)));
+    let bytes = [&[b'I'; 70_000][..], &sound[..]].concat();
+    write(Case::Read(bytes.clone()))?;
+    write(Case::Copy(bytes, sound.len() + 1))
+}
+
+fn lacking_coins(write: Write) -> io::Result<()> {
+    let mut random = Random::new(7);
+    for n in [1, 2, 5, 63, 64] {
+        let mut operations = Vec::new();
+        for _ in 0..8 {
+            let a = random.below(n);
+            operations.extend([Operation::H(a), Operation::M(a), Operation::S(a), Operation::M(a)]);
+        }
+        for coins in [0, 1, 3, 4, 7, 8, 9] {
+            let coins = random.bytes(coins);
+            let needed = record::distance_to_rows(n) + 16;
+            write(Case::Run(make::text(n, &operations), coins.clone(), needed))?;
+            write(Case::Run(make::text(n, &operations), coins, needed - 1))?;
+        }
+    }
+    Ok(())
+}
