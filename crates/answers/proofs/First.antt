@@ -53,3 +53,11 @@ lowest-none f n l = go (lowest f n) (lowest-is f n)
     go : (o : Option ℕ) → Answer f n o → o ≡ none
     go none k = refl
     go (some q) k = absurd (true≢false (sym (k .passes) ∙ l q (k .below)))
+
+-- what is found lies below n
+pub lowest-below : (f : ℕ → Bool) (n p : ℕ) → some p ≡ lowest f n → p < n
+lowest-below f n p e = go (lowest f n) e (lowest-is f n)
+  where
+    go : (o : Option ℕ) → some p ≡ o → Answer f n o → p < n
+    go none q l = absurd (let z : _≡_ {A = ℕ} 0 1 = cc in omega arith)
+    go (some k) q l = let u : p ≡ k = cc in omega (arith, l .below)

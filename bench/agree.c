@@ -1,0 +1,151 @@
+/* Holds the library and the two C programs to each other: number, every place of the answer, and
+   every byte of the lent buffer, also behind the record and after a refusal. */
+#include "agree.h"
+#include "workloads.h"
+
+Run *const runs[3] = { senghovai_run, rows_run, best_run };
+
+enum { ROOM = LONGEST_RECORD + 64, FILL = 0xAA };
+
+int agree_run(const u8 *text, u64 length, const u8 *coins, u64 coins_len, u64 record_len, u64 *number)
+{
+    static u8 room[3][ROOM];
+    u64 answer[3][6], numbers[3];
+    for (int k = 0; k < 3; k++) {
+        memset(room[k], FILL, ROOM);
+        memset(answer[k], FILL, sizeof answer[k]);
+        numbers[k] = runs[k](text, length, coins, coins_len, room[k], record_len, answer[k]);
+    }
+    *number = numbers[0];
+    for (int k = 1; k < 3; k++)
+        if (numbers[k] != numbers[0] || memcmp(answer[k], answer[0], sizeof *answer) ||
+            memcmp(room[k], room[0], ROOM))
+            return 0;
+    return 1;
+}
+
+int agree_check(const u8 *text, u64 length)
+{
+    u64 a[3], b[3];
+    memset(a, FILL, sizeof a);
+    memset(b, FILL, sizeof b);
+    return senghovai_check(text, length, a) == best_check(text, length, b) && !memcmp(a, b, sizeof a);
+}
+
+int agree_read(const u8 *bytes, u64 length, u64 *number)
+{
+    u64 a[5], b[5];
+    memset(a, FILL, sizeof a);
+    memset(b, FILL, sizeof b);
+    *number = senghovai_read(bytes, length, a);
+    return *number == best_read(bytes, length, b) && !memcmp(a, b, sizeof a);
+}
+
+int agree_same(const u8 *first, u64 first_len, const u8 *second, u64 second_len)
+{
+    u64 a[3], b[3];
+    memset(a, FILL, sizeof a);
+    memset(b, FILL, sizeof b);
+    return senghovai_same(first, first_len, second, second_len, a) ==
+               best_same(first, first_len, second, second_len, b) &&
+           !memcmp(a, b, sizeof a);
+}
+
+static u64 damage_text(u8 *text, u64 length)
+{
+    static const char bytes[] = "HSXYZCQM0123456789 \n-h";
+    u64 at = draw(draw(4) ? length : 5), kind = draw(4);
+    if (kind == 0)
+        return at;
+    if (kind == 1) {
+        for (u64 i = at; i + 1 < length; i++)
+            text[i] = text[i + 1];
+        return length - 1;
+    }
+    if (kind == 2) {
+        for (u64 i = length; i > at; i--)
+            text[i] = text[i - 1];
+        length++;
+    }
+    text[at] = (u8)bytes[draw(sizeof bytes - 1)];
+    return length;
+}
+
+/* A line that is refused for another reason than a changed byte, at the back of the text. */
+static u64 add_line(u8 *text, u64 length)
+{
+    static const char *const lines[] = { "CX 0 0\n", "CZ 0 0\n", "CX 64 64\n", "H 99\n", "M 100\n",
+                                         "CX 0 1000\n", "H 0", "C", "\n", "S 00\n", "Q 1\n" };
+    for (const char *from = lines[draw(sizeof lines / sizeof *lines)]; *from; from++)
+        text[length++] = (u8)*from;
+    return length;
+}
+
+static u64 draw_qubits(void)
+{
+    static const u64 often[] = { 1, 2, 63, 64 };
+    return draw(3) ? 1 + draw(MOST_QUBITS) : often[draw(4)];
+}
+
+static u64 make_text(u8 *text)
+{
+    u64 n = draw_qubits(), ops = draw(40) ? draw(300) : MOST_OPS - 1 + draw(3);
+    if (draw(100) == 0)
+        n = draw(2) ? 0 : MOST_QUBITS + 1 + draw(35);
+    if (n < 1 || n > MOST_QUBITS)
+        return make_hadamards(text, n, 0);
+    u64 length = draw(3) ? make_mixed(text, n, ops, draw(8)) : make_alternate(text, n, ops);
+    u64 harm = draw(8);
+    return harm < 2 ? damage_text(text, length) : harm == 2 ? add_line(text, length) : length;
+}
+
+static u64 damage_record(u8 *record, u64 length)
+{
+    static const char bytes[] = "IXYZ+-0123SR";
+    u64 kind = draw(5), at = draw(length);
+    if (kind == 0)
+        return at;
+    if (kind == 1)
+        at = length - 1 - draw(length < TRAILER ? length : TRAILER);
+    if (kind == 2 && length > TRAILER)
+        record[draw(length - TRAILER)] = (u8)bytes[draw(6)];
+    else
+        record[at] = kind == 3 ? (u8)bytes[draw(sizeof bytes - 1)] : (u8)(record[at] ^ 1 << draw(8));
+    return length;
+}
+
+/* Reads and compares what a run wrote, whole, behind other bytes, and damaged. */
+static int agree_records(u8 *record, u64 length, u64 seen[14])
+{
+    static u8 other[ROOM + 64];
+    u64 number, front = draw(64);
+    draw_bytes(other, front);
+    memcpy(other + front, record, length);
+    int good = agree_same(record, length, other, front + length);
+    u64 total = front + length;
+    if (draw(2))
+        total = damage_record(other, total);
+    good &= agree_read(other, total, &number);
+    seen[number < 14 ? number : 0]++;
+    return good && agree_same(record, length, other, total) && agree_same(other, total, record, length);
+}
+
+int agree_all(u64 circuits, u64 seen[14])
+{
+    static u8 text[MOST_TEXT + 64], coins[MOST_OPS], record[ROOM];
+    u64 answer[6], number;
+    memset(seen, 0, 14 * sizeof *seen);
+    seed(1);
+    for (u64 i = 0; i < circuits; i++) {
+        u64 length = make_text(text), coins_len = draw(4) ? MOST_OPS : draw(60);
+        u64 record_len = draw(6) ? ROOM : draw(LONGEST_RECORD);
+        draw_bytes(coins, coins_len);
+        if (!agree_run(text, length, coins, coins_len, record_len, &number) || !agree_check(text, length))
+            return 0;
+        seen[number < 14 ? number : 0]++;
+        if (number == 0 && best_run(text, length, coins, coins_len, record, ROOM, answer) == 0 &&
+            !agree_records(record, answer[1], seen))
+            return 0;
+    }
+    return 1;
+}

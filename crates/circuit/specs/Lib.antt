@@ -1,0 +1,4 @@
+pub mod Lines
+pub mod Text
+pub mod Reading
+pub mod Promises

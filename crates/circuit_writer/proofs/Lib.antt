@@ -1,0 +1,4 @@
+pub mod Storing
+pub mod Written
+pub mod Numerals
+pub mod Recovered

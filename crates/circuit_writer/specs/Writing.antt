@@ -1,0 +1,78 @@
+-- The text of a circuit. Document 01, "The circuit text". Assumes nothing.
+use mathlib.Core.Bool.{cond}
+use mathlib.Core.List.{List, [], _∷_, _++_}
+use mathlib.Core.Path.{_≡_}
+use Prim.Native.Nat.{ℕ, _+_, _/_, _%_, _<_}
+use lib.Dec.{ltb}
+use lib.ListN.{length, take, drop}
+use lib.Seq.{sets}
+use Rattle.clifford.specs.declared.One.{One}
+use Rattle.clifford.specs.declared.One.the-variants.{H, S, PauliX, PauliY, PauliZ}
+use Rattle.clifford.specs.declared.Two.{Two}
+use Rattle.clifford.specs.declared.Two.the-variants.{Cx, Cz}
+use Rattle.clifford.specs.declared.Gate.the-variants.{One as one, Two as two}
+use Rattle.clifford.specs.declared.Op.{Op}
+use Rattle.clifford.specs.declared.Op.the-variants.{Gate as apply, Measure as measure}
+use Rattle.circuit.specs.Lines.{space, end-byte}
+use Rattle.circuit.specs.Text.{Circuit}
+
+-- the decimal digits of a number below 1000, without a leading zero
+unfoldable pub decimal : ℕ → List ℕ
+decimal v =
+    cond (ltb v 10) ((48 + v) ∷ [])
+    (cond (ltb v 100) ((48 + v / 10) ∷ (48 + v % 10) ∷ [])
+    ((48 + v / 100) ∷ (48 + v / 10 % 10) ∷ (48 + v % 10) ∷ []))
+
+abbrev pub one-letter : One → ℕ
+one-letter H = 72
+one-letter S = 83
+one-letter PauliX = 88
+one-letter PauliY = 89
+one-letter PauliZ = 90
+
+-- the letter after C
+abbrev pub two-letter : Two → ℕ
+two-letter Cx = 88
+two-letter Cz = 90
+
+abbrev pub name-text : Op → List ℕ
+name-text (apply (one g a)) = one-letter g ∷ []
+name-text (apply (two g a b)) = 67 ∷ two-letter g ∷ []
+name-text (measure a) = 77 ∷ []
+
+abbrev pub qubit-text : ℕ → List ℕ
+qubit-text a = space ∷ decimal a
+
+abbrev pub qubits-text : Op → List ℕ
+qubits-text (apply (one g a)) = qubit-text a
+qubits-text (apply (two g a b)) = qubit-text a ++ qubit-text b
+qubits-text (measure a) = qubit-text a
+
+abbrev pub line-text : Op → List ℕ
+line-text op = name-text op ++ qubits-text op ++ end-byte ∷ []
+
+abbrev pub header-text : ℕ → List ℕ
+header-text n = 81 ∷ qubit-text n ++ end-byte ∷ []
+
+abbrev pub lines-text : List Op → List ℕ
+lines-text [] = []
+lines-text (op ∷ ops) = line-text op ++ lines-text ops
+
+abbrev pub circuit-text : Circuit → List ℕ
+circuit-text c = header-text (c .qubits) ++ lines-text (c .ops)
+
+-- the qubits are below 1000, so that they can be written
+abbrev pub Small : Op → Type 0
+Small (apply (one g a)) = a < 1000
+Small (apply (two g a b)) = (a < 1000) × (b < 1000)
+Small (measure a) = a < 1000
+
+-- the text is stored from at on, and nothing else changes
+pub record Stores (text old : List ℕ) (at : ℕ) (new : List ℕ) (next : ℕ) : Type 0 where
+  pub stored : new ≡ sets old at text
+  pub next-is : next ≡ at + length text
+
+-- the same, with what stands before and behind
+pub record Puts (text old : List ℕ) (at : ℕ) (new : List ℕ) (next : ℕ) : Type 0 where
+  pub written : new ≡ take at old ++ text ++ drop next old
+  pub next-is : next ≡ at + length text

@@ -1,0 +1,4 @@
+pub mod Bitwise
+pub mod Loop
+pub mod Settling
+pub mod Whole

@@ -1,0 +1,5 @@
+pub mod Views
+pub mod Stores
+pub mod Gates
+pub mod Seven
+pub mod Lowest

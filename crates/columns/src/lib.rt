@@ -1,0 +1,132 @@
+// Groups of 64 rows, packed by columns in one lent array: bit i of word j is the x bit of row i on qubit j, bit i of word 64 + j
+// its z bit, bit i of word 128 its sign. A gate is then a handful of word operations on the columns of its qubits, for all rows at once.
+ghost use mathlib.Core.Path.{_≡_};
+ghost use Prim.Native.Nat.{ℕ, _<_, _≤_};
+ghost use Rattle.clifford.specs.Gates.{Fits};
+ghost use Rattle.answers.specs.First.{lowest};
+ghost use Rattle.clifford.specs.Measurement.{has-x};
+ghost use Rattle.packing.specs.View.{Words, group-rows};
+ghost use Rattle.columns.specs.Gated.{Gated};
+ghost use Rattle.columns.specs.Found.{found};
+use clifford::Gate;
+use clifford::One;
+use clifford::Two;
+
+pub fn h(w: &mut [u64; 129], a: usize)
+    requires { ⌜ Words (now w) × (a < 64) ⌝ }
+    ensures { λ _. ⌜ Gated (Gate.One One.H a) (now (w .entry)) (now (w .exit)) ⌝ }
+{
+    let x = w[a];
+    let z = w[64 + a];
+    let sign = w[128];
+    w[a] = z;
+    w[64 + a] = x;
+    w[128] = sign ^ (x & z);
+}
+
+pub fn s(w: &mut [u64; 129], a: usize)
+    requires { ⌜ Words (now w) × (a < 64) ⌝ }
+    ensures { λ _. ⌜ Gated (Gate.One One.S a) (now (w .entry)) (now (w .exit)) ⌝ }
+{
+    let x = w[a];
+    let z = w[64 + a];
+    let sign = w[128];
+    let new = z ^ x;
+    let turns = x & z;
+    w[64 + a] = new;
+    w[128] = sign ^ turns;
+}
+
+pub fn x(w: &mut [u64; 129], a: usize)
+    requires { ⌜ Words (now w) × (a < 64) ⌝ }
+    ensures { λ _. ⌜ Gated (Gate.One One.PauliX a) (now (w .entry)) (now (w .exit)) ⌝ }
+{
+    let z = w[64 + a];
+    let sign = w[128];
+    w[128] = sign ^ z;
+}
+
+pub fn y(w: &mut [u64; 129], a: usize)
+    requires { ⌜ Words (now w) × (a < 64) ⌝ }
+    ensures { λ _. ⌜ Gated (Gate.One One.PauliY a) (now (w .entry)) (now (w .exit)) ⌝ }
+{
+    let x = w[a];
+    let z = w[64 + a];
+    let sign = w[128];
+    w[128] = sign ^ (x ^ z);
+}
+
+pub fn z(w: &mut [u64; 129], a: usize)
+    requires { ⌜ Words (now w) × (a < 64) ⌝ }
+    ensures { λ _. ⌜ Gated (Gate.One One.PauliZ a) (now (w .entry)) (now (w .exit)) ⌝ }
+{
+    let x = w[a];
+    let sign = w[128];
+    w[128] = sign ^ x;
+}
+
+pub fn cx(w: &mut [u64; 129], a: usize, b: usize)
+    requires { ⌜ Words (now w) × (a < 64) × (b < 64) × (a ≡ b → ⊥) ⌝ }
+    ensures { λ _. ⌜ Gated (Gate.Two Two.Cx a b) (now (w .entry)) (now (w .exit)) ⌝ }
+{
+    let xa = w[a];
+    let za = w[64 + a];
+    let xb = w[b];
+    let zb = w[64 + b];
+    let sign = w[128];
+    let both = xa & zb;
+    let differs = xb ^ za;
+    w[64 + a] = za ^ zb;
+    w[b] = xb ^ xa;
+    w[128] = sign ^ (both ^ (both & differs));
+}
+
+pub fn cz(w: &mut [u64; 129], a: usize, b: usize)
+    requires { ⌜ Words (now w) × (a < 64) × (b < 64) × (a ≡ b → ⊥) ⌝ }
+    ensures { λ _. ⌜ Gated (Gate.Two Two.Cz a b) (now (w .entry)) (now (w .exit)) ⌝ }
+{
+    let xa = w[a];
+    let za = w[64 + a];
+    let xb = w[b];
+    let zb = w[64 + b];
+    let sign = w[128];
+    let both = xa & xb;
+    let differs = za ^ zb;
+    w[64 + a] = za ^ xb;
+    w[64 + b] = zb ^ xa;
+    w[128] = sign ^ (both & differs);
+}
+
+pub fn gate(w: &mut [u64; 129], g: Gate)
+    requires { ⌜ Words (now w) × Fits 64 g ⌝ }
+    ensures { λ _. ⌜ Gated g (now (w .entry)) (now (w .exit)) ⌝ }
+{
+    match g {
+        Gate::One(k, a) => match k {
+            One::H => h(w, a),
+            One::S => s(w, a),
+            One::PauliX => x(w, a),
+            One::PauliY => y(w, a),
+            One::PauliZ => z(w, a),
+        },
+        Gate::Two(k, a, b) => match k {
+            Two::Cx => cx(w, a, b),
+            Two::Cz => cz(w, a, b),
+        },
+    }
+}
+
+pub enum Found {
+    At(usize),
+    Nothing,
+}
+
+// The lowest of the first n rows that has X or Y at a.
+pub fn random_row(w: &[u64; 129], n: usize, a: usize) -> Found
+    requires { ⌜ (n ≤ 64) × (a < n) ⌝ }
+    ensures { λ r. ⌜ found r ≡ lowest (λ i. has-x a (group-rows n (now (w .entry)) i)) n ⌝ }
+{
+    let x = w[a];
+    let p = u64::trailing_zeros(x) as usize;
+    if p < n { Found::At(p) } else { Found::Nothing }
+}

@@ -1,0 +1,16 @@
+pub mod Lengths
+pub mod Numbers
+pub mod Joined
+pub mod RowTexts
+pub mod Pairs
+pub mod Outcomes
+pub mod Held
+pub mod Ending
+pub mod Taken
+pub mod Archive
+pub mod Places
+pub mod Written
+pub mod Spelled
+pub mod Trailer
+pub mod Again
+pub mod Start

@@ -1,0 +1,5 @@
+pub mod Shots
+pub mod Counting
+pub mod Views
+pub mod Walking
+pub mod Sheets

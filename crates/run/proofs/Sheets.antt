@@ -1,0 +1,144 @@
+-- From the walk to the sheet: the start rows, the written record, and the run's definition. Assumes nothing.
+use mathlib.Core.Path.{_≡_, refl, sym, _∙_, ap, ap₂}
+use mathlib.Core.Bool.{Bool}
+use mathlib.Core.List.{List, [], _∷_, map}
+use Prim.Native.Nat.{ℕ, _+_, _≤_, _<_}
+use native.Mathlib.Omega.{arith}
+use lib.Dec.{leb}
+use lib.ListN.{length, take, drop, length-take, length-map}
+use borrow.Author.Tests.{le-leb, lt-leb}
+use Rattle.answers.specs.declared.Refusal.{Refusal}
+use Rattle.answers.specs.Verdict.{Verdict, accepted, refused, then, unless, over}
+use Rattle.answers.specs.Refusals.{numberOf, placeOf}
+use Rattle.clifford.specs.declared.Op.{Op}
+use Rattle.clifford.specs.Tableau.{Rows, start}
+use Rattle.clifford.specs.Run.{State, run}
+use Rattle.circuit.specs.Text.{Circuit, meaning, operations, most-operations}
+use Rattle.circuit.specs.Promises.{count-measured, Accepts}
+use Rattle.circuit.proofs.Meant.{parts}
+use Rattle.packing.specs.View.{rows-of}
+use Rattle.tableau.specs.declared.Tableau.{Tableau}
+use Rattle.tableau.specs.View.{rows}
+use Rattle.records.specs.Record.{mark, record-with, record-of, record-length}
+use Rattle.records.proofs.Lengths.{length-record}
+use Rattle.tally.specs.declared.Tally.{Tally}
+use Rattle.run.specs.declared.Ran.{Ran}
+use Rattle.run.specs.declared.Ran.the-variants as ran
+use Rattle.run.specs.Run.{Sheet, begin, sheet, run-circuit, run-of, numbers, rest-of, buffer-after, Runs}
+use Rattle.run.specs.Walk.{View, lines-of, or-none, Ended, Walkable, Playable, Played, PlayAs, Sheeted, RanAs}
+use Rattle.run.proofs.Counting.{run-count, measures-one}
+
+pub start-rows : (t : Tableau) (n : ℕ) → t .n ≡ n → rows t ≡ start n → start n ≡ rows-of n (t .destabilizers) (t .stabilizers)
+unfolding rows
+start-rows t n e r = sym r ∙ ap (λ (m : ℕ). rows-of m (t .destabilizers) (t .stabilizers)) e
+
+-- as many characters as there are measurements
+pub ended-count : (text : List ℕ) (body n : ℕ) (coins d s marks : List ℕ) (t : Tally) → Ended text body n coins d s marks t → t .measured ≡ count-measured (lines-of n body text)
+ended-count text body n coins d s marks t e = omega (arith, e .view .count, run-count n 2 (lines-of n body text) (begin n coins) (e .state) (e .is))
+
+pub ended-room : (text : List ℕ) (body n : ℕ) (coins d s marks : List ℕ) (t : Tally) → Ended text body n coins d s marks t → length (take (t .measured) marks) ≡ t .measured
+ended-room text body n coins d s marks t e = ap length (sym (e .view .marks-are)) ∙ length-map-mark ∙ sym (e .view .count)
+  where
+    length-map-mark : length (map mark (e .state .outcomes)) ≡ length (e .state .outcomes)
+    length-map-mark = length-map (e .state .outcomes) mark
+
+-- they fit the array, and the record fits the buffer
+pub ended-within : (text : List ℕ) (body n : ℕ) (coins d s marks : List ℕ) (t : Tally) → Ended text body n coins d s marks t → t .measured ≤ length marks
+ended-within text body n coins d s marks t e = omega (arith, ended-room text body n coins d s marks t e, length-take (t .measured) marks)
+
+pub ended-few : (text : List ℕ) (body n : ℕ) (coins d s marks : List ℕ) (t : Tally) → Ended text body n coins d s marks t → length (take (t .measured) marks) ≤ 4096
+ended-few text body n coins d s marks t e = omega (arith, ended-room text body n coins d s marks t e, ended-within text body n coins d s marks t e, e .view .room)
+
+pub ended-fits : (text : List ℕ) (body n : ℕ) (coins d s marks : List ℕ) (t : Tally) (old : List ℕ) → Ended text body n coins d s marks t → Playable text body n old
+    → record-length n (length (take (t .measured) marks)) ≤ length old
+ended-fits text body n coins d s marks t old e p = rw (ended-room text body n coins d s marks t e, ended-count text body n coins d s marks t e) (p .room)
+
+pub ended-played : (text : List ℕ) (body n : ℕ) (coins d s marks : List ℕ) (t : Tally) (old : List ℕ) (size : ℕ) (new : List ℕ) → Ended text body n coins d s marks t
+    → size ≡ record-length n (length (take (t .measured) marks)) → new ≡ over (record-with n (take (t .measured) marks) (rows-of n d s)) old
+    → Played text body n coins old size t new
+ended-played text body n coins d s marks t old size new e z b =
+    let m : map mark (e .state .outcomes) ≡ take (t .measured) marks = e .view .marks-are in
+    record {
+      state = e .state;
+      is = e .is;
+      size-is = z ∙ ap (λ (l : List ℕ). record-length n (length l)) (sym m) ∙ sym (length-record n (map mark (e .state .outcomes)) (e .state .rows));
+      tally-is = e .view .tally-is;
+      rest-is = e .view .coins-are;
+      enough = e .view .enough;
+      buffer = b ∙ sym (ap₂ (λ (l : List ℕ) (r : Rows). over (record-with n l r) old) m (e .view .rows-are));
+    }
+
+-- the run of an accepted text
+module _ (text coins old : List ℕ) (n count measured body : ℕ) (a : Accepts text n count measured body) where
+  lines-are : lines-of n body text ≡ a .circuit .ops
+  lines-are = ap or-none (a .lines)
+
+  pub may-play : record-length n measured ≤ length old → Playable text body n old
+  may-play h =
+      let p = parts text (a .circuit) (a .meant) in
+      record {
+        some-qubits = omega (arith, p .some-qubits, a .qubits-is);
+        few-qubits = omega (arith, p .few-qubits, a .qubits-is);
+        lines = a .lines ∙ ap accepted (sym lines-are);
+        room = (let u : count-measured (lines-of n body text) ≡ measured = ap count-measured lines-are ∙ sym (a .measured-is) in rw u h);
+      }
+
+  met : run-of text coins (length old) ≡ unless (leb (record-length n measured) (length old)) 8 0 (run-circuit (a .circuit) coins)
+  unfolding run-of
+  met =
+      ap (λ (v : Verdict Circuit). then v (λ c. unless (leb (record-length (c .qubits) (count-measured (c .ops))) (length old)) 8 0 (run-circuit c coins))) (a .meant)
+      ∙ ap₂ (λ (m k : ℕ). unless (leb (record-length m k) (length old)) 8 0 (run-circuit (a .circuit) coins)) (sym (a .qubits-is)) (sym (a .measured-is))
+
+  pub no-room : length old < record-length n measured → run-of text coins (length old) ≡ refused 8 0
+  no-room h = met ∙ ap (λ (b : Bool). unless b 8 0 (run-circuit (a .circuit) coins)) (lt-leb (record-length n measured) (length old) h)
+
+  played : record-length n measured ≤ length old → (v : Verdict State) → run n 2 (lines-of n body text) (begin n coins) ≡ v
+      → run-of text coins (length old) ≡ then v (λ e. accepted (sheet n e))
+  unfolding run-circuit
+  played h v e =
+      met ∙ ap (λ (b : Bool). unless b 8 0 (run-circuit (a .circuit) coins)) (le-leb (record-length n measured) (length old) h)
+      ∙ ap₂ (λ (m : ℕ) (ops : List Op). then (run m 2 ops (begin m coins)) (λ e. accepted (sheet m e))) (sym (a .qubits-is)) (sym lines-are)
+      ∙ ap (λ (w : Verdict State). then w (λ e. accepted (sheet n e))) e
+
+  pub ran-as : record-length n measured ≤ length old → (r : Ran) (new : List ℕ) → PlayAs text body n coins old r new → RanAs text coins old r new
+  ran-as h (ran.Sheet size t) new p = record {
+    sheet = sheet n (p .state);
+    is = played h (accepted (p .state)) (p .is);
+    size-is = p .size-is;
+    tally-is = p .tally-is;
+    rest-is = p .rest-is;
+    enough = p .enough;
+    buffer = p .buffer;
+  }
+  ran-as h (ran.Refused r) new p = (played h (refused (numberOf r) (placeOf r)) (p .0), p .1)
+
+pub not-read : (text coins old : List ℕ) (number place : ℕ) → meaning text ≡ refused number place → run-of text coins (length old) ≡ refused number place
+unfolding run-of
+not-read text coins old number place e =
+    ap (λ (v : Verdict Circuit). then v (λ c. unless (leb (record-length (c .qubits) (count-measured (c .ops))) (length old)) 8 0 (run-circuit c coins))) e
+
+pub may-size : (text : List ℕ) (n count measured body : ℕ) → Accepts text n count measured body → (n ≤ 64) × (measured ≤ 4096)
+may-size text n count measured body a =
+    let p = parts text (a .circuit) (a .meant) in
+    (omega (arith, p .few-qubits, a .qubits-is), omega (arith, measured-within (a .circuit .ops), p .few-operations, a .measured-is))
+  where
+    measured-within : (ops : List Op) → count-measured ops ≤ length ops
+    measured-within [] = omega arith
+    measured-within (op ∷ ops) = omega (arith, measured-within ops, measures-one op)
+
+-- what the caller is told
+pub ran-sheet : (text coins old : List ℕ) (size : ℕ) (t : Tally) (rest new : List ℕ) → Sheeted text coins old size t new → rest ≡ drop (t .taken) coins
+    → Runs text coins old (0 ∷ 0 ∷ size ∷ t .measured ∷ t .random ∷ t .taken ∷ []) rest new
+ran-sheet text coins old size t rest new r e = record {
+  answers = ap₂ (λ (k : ℕ) (u : Tally). 0 ∷ 0 ∷ k ∷ u .measured ∷ u .random ∷ u .taken ∷ []) (r .size-is) (r .tally-is) ∙ sym (ap numbers (r .is));
+  hands-back = e ∙ sym (r .rest-is) ∙ sym (ap (λ (v : Verdict Sheet). rest-of v coins) (r .is));
+  buffer = r .buffer ∙ sym (ap (λ (v : Verdict Sheet). buffer-after v old) (r .is));
+}
+
+pub ran-refused : (text coins old : List ℕ) (number place : ℕ) (new : List ℕ) → run-of text coins (length old) ≡ refused number place → new ≡ old
+    → Runs text coins old (number ∷ place ∷ 0 ∷ 0 ∷ 0 ∷ 0 ∷ []) coins new
+ran-refused text coins old number place new e b = record {
+  answers = sym (ap numbers e);
+  hands-back = sym (ap (λ (v : Verdict Sheet). rest-of v coins) e);
+  buffer = b ∙ sym (ap (λ (v : Verdict Sheet). buffer-after v old) e);
+}

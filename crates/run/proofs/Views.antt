@@ -1,0 +1,113 @@
+-- What each operation does to the state that the walk holds. Assumes nothing.
+use mathlib.Core.Path.{_≡_, refl, sym, _∙_, ap, ap₂}
+use mathlib.Core.Bool.{Bool, true, false}
+use mathlib.Core.List.{List, [], _∷_, _++_, map}
+use mathlib.Core.Option.{Option, none, some}
+use Prim.Native.Nat.{ℕ, suc, _+_, _≤_, _<_}
+use native.Mathlib.Nat.{add-zero}
+use native.Mathlib.Numerals.{add-one}
+use native.Mathlib.Omega.{arith}
+use lib.ListN.{length, take, drop, set, length-set, length-append, length-drop}
+use lib.Seq.{take-suc-set, drop-drop}
+use Rattle.answers.specs.Verdict.{Verdict, accepted, refused}
+use Rattle.clifford.specs.declared.Gate.{Gate}
+use Rattle.clifford.specs.declared.Op.the-variants.{Gate as apply, Measure as measure}
+use Rattle.clifford.specs.Gates.{Fits}
+use Rattle.clifford.specs.Tableau.{Rows, gated, start}
+use Rattle.clifford.specs.Measurement.{random-row, collapsed, fixed-value, Outcome}
+use Rattle.clifford.specs.Run.{State, coin, settle, step}
+use Rattle.packing.specs.View.{Words, rows-of}
+use Rattle.columns.specs.Gated.{Gated}
+use Rattle.tableau.proofs.Gated.{gated-both}
+use Rattle.records.specs.Record.{mark, mark-of}
+use Rattle.tally.specs.declared.Tally.{Tally}
+use Rattle.tally.specs.Tally.{none-yet, one-if, stepped, tallied}
+use Rattle.run.specs.Run.{begin}
+use Rattle.circuit.specs.Lines.{op-line}
+use Rattle.circuit.specs.Reading.{Stands}
+use Rattle.run.specs.declared.Step.{Step}
+use Rattle.run.specs.declared.Step.the-variants as steps
+use Rattle.run.specs.Walk.{Fixed, Random, Dry, View, Went, MeasureAs, StepAs}
+use Rattle.tally.proofs.Tallies.{tallied-more}
+
+pub view-begin : (n : ℕ) (coins d s marks : List ℕ) → Words d → Words s → length marks ≡ 4096 → start n ≡ rows-of n d s → View n coins (begin n coins) d s marks none-yet
+view-begin n coins d s marks wd ws lm e =
+    record { d-words = wd; s-words = ws; room = lm; rows-are = e; count = refl; marks-are = refl; tally-is = refl; coins-are = refl; enough = omega arith }
+
+map-more : (f : Outcome → ℕ) (l : List Outcome) (o : Outcome) → map f (l ++ (o ∷ [])) ≡ map f l ++ (f o ∷ [])
+map-more f [] o = refl
+map-more f (p ∷ l) o = ap (_∷_ (f p)) (map-more f l o)
+
+module _ (n : ℕ) (coins : List ℕ) (e : State) (d s marks : List ℕ) (t : Tally) (v : View n coins e d s marks t) where
+  pub went-gate : (line : ℕ) (g : Gate) (d′ s′ : List ℕ) → n ≤ 64 → Fits n g → Gated g d d′ → Gated g s s′ → Went n coins (step n line (apply g) e) d′ s′ marks t
+  went-gate line g d′ s′ h f ed es = record {
+    state = record { outcomes = e .outcomes; rows = gated g (e .rows); coins = e .coins };
+    is = refl;
+    view = record {
+      d-words = ed .words;
+      s-words = es .words;
+      room = v .room;
+      rows-are = ap (gated g) (v .rows-are) ∙ sym (gated-both g n d s d′ s′ h f ed es);
+      count = v .count;
+      marks-are = v .marks-are;
+      tally-is = v .tally-is;
+      coins-are = v .coins-are;
+      enough = v .enough;
+    };
+  }
+
+  -- one outcome more, with rows and coins as they then are
+  viewed : (o : Outcome) (t′ : Rows) (left d′ s′ : List ℕ) (m : ℕ) (u : Tally) → Words d′ → Words s′ → t′ ≡ rows-of n d′ s′ → m ≡ mark o → u ≡ stepped (o .random) t
+      → t .measured < 4096 → left ≡ drop (u .taken) coins → u .taken ≤ length coins
+      → View n coins (record { outcomes = e .outcomes ++ (o ∷ []); rows = t′; coins = left }) d′ s′ (set marks (t .measured) m) u
+  viewed o t′ left d′ s′ m u wd ws r em eu h el eh =
+      let c : u .measured ≡ t .measured + 1 = ap (λ (w : Tally). w .measured) eu in
+      record {
+        d-words = wd;
+        s-words = ws;
+        room = length-set marks (t .measured) m ∙ v .room;
+        rows-are = r;
+        count = omega (arith, c, v .count, length-append (e .outcomes) (o ∷ []));
+        marks-are =
+            map-more mark (e .outcomes) o ∙ ap₂ (λ (l : List ℕ) (k : ℕ). l ++ (k ∷ [])) (v .marks-are) (sym em)
+            ∙ sym (take-suc-set marks (t .measured) m (omega (arith, v .room))) ∙ ap (λ (k : ℕ). take k (set marks (t .measured) m)) (sym (add-one (t .measured)) ∙ sym c);
+        tally-is = eu ∙ ap (stepped (o .random)) (v .tally-is) ∙ sym (tallied-more none-yet (e .outcomes) o);
+        coins-are = el;
+        enough = eh;
+      }
+
+  pub went-fixed : (line a : ℕ) (value : Bool) (d′ s′ : List ℕ) (m : ℕ) (u : Tally) → Words d′ → Words s′ → Fixed n a (rows-of n d s) value (rows-of n d′ s′)
+      → m ≡ mark-of false value → u ≡ stepped false t → t .measured < 4096 → Went n coins (step n line (measure a) e) d′ s′ (set marks (t .measured) m) u
+  went-fixed line a value d′ s′ m u wd ws f em eu h =
+      let k : u .taken ≡ t .taken = ap (λ (w : Tally). w .taken) eu ∙ add-zero (t .taken) in
+      let fv : value ≡ fixed-value n a (e .rows) = f .is ∙ ap (fixed-value n a) (sym (v .rows-are)) in
+      record {
+        state = record { outcomes = e .outcomes ++ (record { random = false; value = fixed-value n a (e .rows) } ∷ []); rows = e .rows; coins = e .coins };
+        is = ap (λ (o : Option ℕ). settle n line a e o (e .coins)) (ap (random-row n a) (v .rows-are) ∙ f .kind);
+        view = viewed (record { random = false; value = fixed-value n a (e .rows) }) (e .rows) (e .coins) d′ s′ m u wd ws (v .rows-are ∙ sym (f .kept)) (em ∙ ap (mark-of false) fv) eu h
+            (v .coins-are ∙ ap (λ (i : ℕ). drop i coins) (sym k)) (omega (arith, k, v .enough));
+      }
+
+  pub went-random : (line a : ℕ) (value : Bool) (d′ s′ : List ℕ) (m : ℕ) (u : Tally) → Words d′ → Words s′ → Random n a (rows-of n d s) (drop (t .taken) coins) value (rows-of n d′ s′)
+      → m ≡ mark-of true value → u ≡ stepped true t → t .measured < 4096 → Went n coins (step n line (measure a) e) d′ s′ (set marks (t .measured) m) u
+  went-random line a value d′ s′ m u wd ws f em eu h =
+      let k : u .taken ≡ t .taken + 1 = ap (λ (w : Tally). w .taken) eu in
+      let c : e .coins ≡ f .byte ∷ f .left = v .coins-are ∙ f .coins-are in
+      let l : drop (u .taken) coins ≡ f .left = ap (λ (i : ℕ). drop i coins) k ∙ sym (drop-drop 1 (t .taken) coins) ∙ ap (drop 1) (f .coins-are) in
+      let g : length coins ≡ suc (length (f .left)) + t .taken = omega (arith, length-drop (t .taken) coins, ap length (f .coins-are), v .enough) in
+      record {
+        state = record { outcomes = e .outcomes ++ (record { random = true; value = coin (f .byte) } ∷ []); rows = collapsed n a (f .row) (coin (f .byte)) (e .rows); coins = f .left };
+        is = ap₂ (settle n line a e) (ap (random-row n a) (v .rows-are) ∙ f .kind) c;
+        view = viewed (record { random = true; value = coin (f .byte) }) _ (f .left) d′ s′ m u wd ws
+            (ap₂ (collapsed n a (f .row)) (sym (f .is)) (v .rows-are) ∙ sym (f .after)) (em ∙ ap (mark-of true) (f .is)) eu h (sym l) (omega (arith, k, g));
+      }
+
+  pub went-dry : (line a : ℕ) → Dry n a (rows-of n d s) (drop (t .taken) coins) → step n line (measure a) e ≡ refused 7 line
+  went-dry line a f = ap₂ (settle n line a e) (ap (random-row n a) (v .rows-are) ∙ f .kind) (v .coins-are ∙ f .none-left)
+
+-- a line that measures
+pub measured-step : (text : List ℕ) (at n a : ℕ) (coins d s marks : List ℕ) (t : Tally) (next : ℕ) (r : Step) (d′ s′ marks′ : List ℕ) → Stands op-line text at (measure a) next
+    → MeasureAs n a coins d s marks t next r d′ s′ marks′ → StepAs text at n coins d s marks t r d′ s′ marks′
+measured-step text at n a coins d s marks t next (steps.Next behind u) d′ s′ marks′ k m = record { op = measure a; stands = rw (m .0) k; goes = m .1 }
+measured-step text at n a coins d s marks t next steps.NoCoin d′ s′ marks′ k m = record { op = measure a; next = next; stands = k; stops = m }
+measured-step text at n a coins d s marks t next steps.Malformed d′ s′ marks′ k m = absurd m

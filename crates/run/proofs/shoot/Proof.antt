@@ -1,0 +1,61 @@
+use mathlib.Core.Path.{_≡_, refl, sym}
+use Rattle.answers.proofs.First.{lowest-below}
+use Rattle.packing.specs.View.{rows-of}
+use Rattle.run.proofs.Shots.{was-dry, was-random}
+use borrow.Author.Needs.{needs}
+use Rattle.run.proofs.shoot.Statement.{statement}
+use Rattle.run.proofs.shoot.Tie as tie
+
+random-row-requires : tie.Need-random-row-requires
+random-row-requires c κs = search needs
+
+enum-told : tie.Need-enum-told
+enum-told c = search needs
+
+fixed-value-requires : tie.Need-fixed-value-requires
+fixed-value-requires c κs = search needs
+
+enum-known-p : tie.Need-enum-known-p
+enum-known-p c = search needs
+
+returns : tie.Need-returns
+returns c =
+    let e = c .before .before .before .before .before .before .before in
+    let q = c .before .before in
+    (e .pre .0, e .pre .1, was-dry (e .args .n) (e .args .a) (rows-of (e .args .n) (e .args .d .now) (e .args .s .now)) (e .args .coins .now) (e .args .used) (q .p .given .0 .0) (rw (q .p .given .1) at (q .before .before .random-row .ensures)) (c .if1 .taken))
+
+shared-slice-read-coin : tie.Need-shared-slice-read-coin
+shared-slice-read-coin c = search needs
+
+collapse-requires : tie.Need-collapse-requires
+collapse-requires c κs =
+    let e = c .before .before .before .before .before .before .before .before .before .before in
+    let q = c .before .before .before .before .before in
+    (search needs, search needs, search needs, search needs, lowest-below _ (e .args .n) (q .p .given .0 .0) (rw (q .p .given .1) at (q .before .before .random-row .ensures)))
+
+returns-2 : tie.Need-returns-2
+returns-2 c =
+    let e = c .before .before .before .before .before .before .before .before in
+    let q = c .before .before .before in
+    (e .pre .0, e .pre .1, record { kind = sym (rw (q .enum-told .given .1) at (q .before .before .random-row .ensures)); is = c .fixed-value .ensures; kept = refl })
+
+returns-3 : tie.Need-returns-3
+returns-3 c =
+    let e = c .before .before .before .before .before .before .before .before .before .before .before in
+    let q = c .before .before .before .before .before .before in
+    let r = c .collapse .ensures in
+    (r .0, r .1, was-random (e .args .n) (e .args .a) (rows-of (e .args .n) (e .args .d .now) (e .args .s .now)) (e .args .coins .now) (e .args .used) (q .p .given .0 .0) _ _ (rw (q .p .given .1) at (q .before .before .random-row .ensures)) (search needs) refl (r .2))
+
+pub shoot-spec : {M : Type 1} → statement M
+shoot-spec =
+    tie.close
+    (tie.spec
+    random-row-requires
+    enum-told
+    fixed-value-requires
+    enum-known-p
+    returns
+    shared-slice-read-coin
+    collapse-requires
+    returns-2
+    returns-3)

@@ -1,0 +1,174 @@
+-- What the parts of a run promise one another: a measurement, one line, and the walk over all lines. Assumes nothing.
+use mathlib.Core.Bool.{Bool}
+use mathlib.Core.List.{List, [], _∷_, map}
+use mathlib.Core.Option.{none, some}
+use mathlib.Core.Path.{_≡_}
+use Prim.Native.Nat.{ℕ, _≤_, _<_}
+use lib.ListN.{length, take, drop}
+use Rattle.answers.specs.Refusals.{numberOf, placeOf}
+use Rattle.answers.specs.Verdict.{Verdict, accepted, refused, over}
+use Rattle.clifford.specs.declared.Op.{Op}
+use Rattle.clifford.specs.declared.Op.the-variants.{Measure as measure}
+use Rattle.clifford.specs.Tableau.{Rows, start}
+use Rattle.clifford.specs.Measurement.{random-row, collapsed, fixed-value}
+use Rattle.clifford.specs.Run.{State, coin, step, run, Valid}
+use Rattle.circuit.specs.Lines.{op-line, malformed}
+use Rattle.circuit.specs.Reading.{Stands}
+use Rattle.circuit.specs.Text.{operations, most-operations}
+use Rattle.circuit.specs.Promises.{count-measured}
+use Rattle.packing.specs.View.{Words, rows-of}
+use Rattle.records.specs.Record.{mark, record-length}
+use Rattle.run.specs.declared.Shot.{Shot}
+use Rattle.run.specs.declared.Shot.the-variants as shot
+use Rattle.run.specs.declared.Step.{Step}
+use Rattle.run.specs.declared.Step.the-variants as steps
+use Rattle.run.specs.declared.Walked.{Walked}
+use Rattle.run.specs.declared.Walked.the-variants as walked
+use Rattle.run.specs.declared.Ran.{Ran}
+use Rattle.run.specs.declared.Ran.the-variants as ran
+use Rattle.tally.specs.declared.Tally.{Tally}
+use Rattle.run.specs.Run.{Sheet, begin, sheet, run-of}
+use Rattle.tally.specs.Tally.{none-yet, tallied}
+
+-- a fixed measurement: no row changes
+pub record Fixed (n a : ℕ) (t : Rows) (value : Bool) (t′ : Rows) : Type 0 where
+  pub kind : random-row n a t ≡ none
+  pub is : value ≡ fixed-value n a t
+  pub kept : t′ ≡ t
+
+-- a random one with a coin
+pub record Random (n a : ℕ) (t : Rows) (coins : List ℕ) (value : Bool) (t′ : Rows) : Type 0 where
+  pub row : ℕ
+  pub byte : ℕ
+  pub left : List ℕ
+  pub kind : random-row n a t ≡ some row
+  pub coins-are : coins ≡ byte ∷ left
+  pub is : value ≡ coin byte
+  pub after : t′ ≡ collapsed n a row value t
+
+-- a random one that finds no coin
+pub record Dry (n a : ℕ) (t : Rows) (coins : List ℕ) : Type 0 where
+  pub row : ℕ
+  pub kind : random-row n a t ≡ some row
+  pub none-left : coins ≡ []
+
+abbrev pub ShotAs : ℕ → ℕ → Rows → List ℕ → Shot → Rows → Type 0
+ShotAs n a t coins (shot.Fixed value) t′ = Fixed n a t value t′
+ShotAs n a t coins (shot.Random value) t′ = Random n a t coins value t′
+ShotAs n a t coins shot.NoCoin t′ = Dry n a t coins
+
+-- a state of the run as the walk holds it: its rows in two groups of words, its outcomes as characters, the coins that are left behind those taken, and the tally
+pub record View (n : ℕ) (coins : List ℕ) (e : State) (d s marks : List ℕ) (t : Tally) : Type 0 where
+  pub d-words : Words d
+  pub s-words : Words s
+  pub room : length marks ≡ 4096
+  pub rows-are : e .rows ≡ rows-of n d s
+  pub count : t .measured ≡ length (e .outcomes)
+  pub marks-are : map mark (e .outcomes) ≡ take (t .measured) marks
+  pub tally-is : t ≡ tallied none-yet (e .outcomes)
+  pub coins-are : e .coins ≡ drop (t .taken) coins
+  pub enough : t .taken ≤ length coins
+
+-- an operation took the state to another
+pub record Went (n : ℕ) (coins : List ℕ) (v : Verdict State) (d s marks : List ℕ) (t : Tally) : Type 0 where
+  pub state : State
+  pub is : v ≡ accepted state
+  pub view : View n coins state d s marks t
+
+-- the line at this position is done, and the next one stands behind it
+pub record Goes (text : List ℕ) (at n : ℕ) (coins d s marks : List ℕ) (t : Tally) (next : ℕ) (d′ s′ marks′ : List ℕ) (t′ : Tally) : Type 0 where
+  pub op : Op
+  pub stands : Stands op-line text at op next
+  pub goes : (line : ℕ) (e : State) → View n coins e d s marks t → Went n coins (step n line op e) d′ s′ marks′ t′
+
+-- it is a random measurement that finds no coin
+pub record Stops (text : List ℕ) (at n : ℕ) (coins d s marks : List ℕ) (t : Tally) : Type 0 where
+  pub op : Op
+  pub next : ℕ
+  pub stands : Stands op-line text at op next
+  pub stops : (line : ℕ) (e : State) → View n coins e d s marks t → step n line op e ≡ refused 7 line
+
+abbrev pub StepAs : List ℕ → ℕ → ℕ → List ℕ → List ℕ → List ℕ → List ℕ → Tally → Step → List ℕ → List ℕ → List ℕ → Type 0
+StepAs text at n coins d s marks t (steps.Next next t′) d′ s′ marks′ = Goes text at n coins d s marks t next d′ s′ marks′ t′
+StepAs text at n coins d s marks t steps.NoCoin d′ s′ marks′ = Stops text at n coins d s marks t
+StepAs text at n coins d s marks t steps.Malformed d′ s′ marks′ = op-line (drop at text) ≡ malformed
+
+-- the words are whole, and the counters have room for one more
+pub record Room (n : ℕ) (coins d s marks : List ℕ) (t : Tally) : Type 0 where
+  pub qubits : n ≤ 64
+  pub d-words : Words d
+  pub s-words : Words s
+  pub marks-room : length marks ≡ 4096
+  pub measured : t .measured < 4096
+  pub random : t .random < 4096
+  pub taken : t .taken < 4096
+  pub enough : t .taken ≤ length coins
+
+-- the measurement of a, with the position behind its line handed on
+abbrev pub MeasureAs : ℕ → ℕ → List ℕ → List ℕ → List ℕ → List ℕ → Tally → ℕ → Step → List ℕ → List ℕ → List ℕ → Type 0
+MeasureAs n a coins d s marks t next (steps.Next behind t′) d′ s′ marks′ =
+    (behind ≡ next) × ((line : ℕ) (e : State) → View n coins e d s marks t → Went n coins (step n line (measure a) e) d′ s′ marks′ t′)
+MeasureAs n a coins d s marks t next steps.NoCoin d′ s′ marks′ = (line : ℕ) (e : State) → View n coins e d s marks t → step n line (measure a) e ≡ refused 7 line
+MeasureAs n a coins d s marks t next steps.Malformed d′ s′ marks′ = ⊥
+
+abbrev pub or-none : Verdict (List Op) → List Op
+or-none (accepted ops) = ops
+or-none (refused number place) = []
+
+-- the operations of an accepted text whose operation lines begin at body
+abbrev pub lines-of : ℕ → ℕ → List ℕ → List Op
+lines-of n body text = or-none (operations n most-operations 2 (drop body text))
+
+-- the walk came to the end of the text
+pub record Ended (text : List ℕ) (body n : ℕ) (coins d s marks : List ℕ) (t : Tally) : Type 0 where
+  pub state : State
+  pub is : run n 2 (lines-of n body text) (begin n coins) ≡ accepted state
+  pub view : View n coins state d s marks t
+
+abbrev pub WalkAs : List ℕ → ℕ → ℕ → List ℕ → Walked → List ℕ → List ℕ → List ℕ → Type 0
+WalkAs text body n coins (walked.Done t) d s marks = Ended text body n coins d s marks t
+WalkAs text body n coins (walked.NoCoin line) d s marks = run n 2 (lines-of n body text) (begin n coins) ≡ refused 7 line
+
+-- where the walk may begin: at an accepted text, with the start rows
+pub record Walkable (text : List ℕ) (body n : ℕ) (d s marks : List ℕ) : Type 0 where
+  pub qubits : n ≤ 64
+  pub lines : operations n most-operations 2 (drop body text) ≡ accepted (lines-of n body text)
+  pub d-words : Words d
+  pub s-words : Words s
+  pub room : length marks ≡ 4096
+  pub from-start : start n ≡ rows-of n d s
+
+-- where a circuit may be run: its text is accepted, and the buffer has room for its record
+pub record Playable (text : List ℕ) (body n : ℕ) (old : List ℕ) : Type 0 where
+  pub some-qubits : 1 ≤ n
+  pub few-qubits : n ≤ 64
+  pub lines : operations n most-operations 2 (drop body text) ≡ accepted (lines-of n body text)
+  pub room : record-length n (count-measured (lines-of n body text)) ≤ length old
+
+-- the circuit was run to its end, and its record written
+pub record Played (text : List ℕ) (body n : ℕ) (coins old : List ℕ) (size : ℕ) (t : Tally) (new : List ℕ) : Type 0 where
+  pub state : State
+  pub is : run n 2 (lines-of n body text) (begin n coins) ≡ accepted state
+  pub size-is : size ≡ length (sheet n state .bytes)
+  pub tally-is : t ≡ sheet n state .tally
+  pub rest-is : state .coins ≡ drop (t .taken) coins
+  pub enough : t .taken ≤ length coins
+  pub buffer : new ≡ over (sheet n state .bytes) old
+
+abbrev pub PlayAs : List ℕ → ℕ → ℕ → List ℕ → List ℕ → Ran → List ℕ → Type 0
+PlayAs text body n coins old (ran.Sheet size t) new = Played text body n coins old size t new
+PlayAs text body n coins old (ran.Refused r) new = (run n 2 (lines-of n body text) (begin n coins) ≡ refused (numberOf r) (placeOf r)) × (new ≡ old)
+
+-- the run was accepted
+pub record Sheeted (text coins old : List ℕ) (size : ℕ) (t : Tally) (new : List ℕ) : Type 0 where
+  pub sheet : Sheet
+  pub is : run-of text coins (length old) ≡ accepted sheet
+  pub size-is : size ≡ length (sheet .bytes)
+  pub tally-is : t ≡ sheet .tally
+  pub rest-is : sheet .rest ≡ drop (t .taken) coins
+  pub enough : t .taken ≤ length coins
+  pub buffer : new ≡ over (sheet .bytes) old
+
+abbrev pub RanAs : List ℕ → List ℕ → List ℕ → Ran → List ℕ → Type 0
+RanAs text coins old (ran.Sheet size t) new = Sheeted text coins old size t new
+RanAs text coins old (ran.Refused r) new = (run-of text coins (length old) ≡ refused (numberOf r) (placeOf r)) × (new ≡ old)

@@ -1,0 +1,3 @@
+pub mod Gated
+pub mod Starting
+pub mod Measuring

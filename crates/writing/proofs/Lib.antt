@@ -1,0 +1,4 @@
+pub mod Placing
+pub mod Texts
+pub mod Parts
+pub mod Packed
