@@ -3,7 +3,8 @@ ghost use Prim.Native.Nat.{_<_, _≤_};
 ghost use lib.ListN.{length};
 use answers::Refusal;
 use answers::Written;
-use libc::{STDIN_FILENO, STDOUT_FILENO};
+use libc::STDIN_FILENO;
+use libc::STDOUT_FILENO;
 
 // Where b stands first from `at` on, or the end.
 fn find(s: &[u8], at: usize, b: u8) -> usize

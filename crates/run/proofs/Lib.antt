@@ -3,3 +3,7 @@ pub mod Counting
 pub mod Views
 pub mod Walking
 pub mod Sheets
+pub mod Demand3
+pub mod Cleanness
+pub mod ReadBack
+pub mod Promised

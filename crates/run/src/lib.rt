@@ -27,7 +27,14 @@ enum Shot {
     NoCoin,
 }
 
-fn shoot(d: &mut [u64; 129], s: &mut [u64; 129], n: usize, a: usize, coins: &[u8], used: usize) -> Shot
+fn shoot(
+    d: &mut [u64; 129],
+    s: &mut [u64; 129],
+    n: usize,
+    a: usize,
+    coins: &[u8],
+    used: usize,
+) -> Shot
     requires { ⌜ Words (now d) × Words (now s) × (n ≤ 64) × (a < n) × (used ≤ length (now coins)) ⌝ }
     ensures { λ r. ⌜ Words (now (d .exit)) × Words (now (s .exit)) × ShotAs n a (rows-of n (now (d .entry)) (now (s .entry))) (drop used (now (coins .entry))) r (rows-of n (now (d .exit)) (now (s .exit))) ⌝ }
 {
@@ -62,7 +69,16 @@ enum Step {
     Malformed,
 }
 
-fn measure(d: &mut [u64; 129], s: &mut [u64; 129], marks: &mut [u8; 4096], n: usize, a: usize, coins: &[u8], tally: Tally, next: usize) -> Step
+fn measure(
+    d: &mut [u64; 129],
+    s: &mut [u64; 129],
+    marks: &mut [u8; 4096],
+    n: usize,
+    a: usize,
+    coins: &[u8],
+    tally: Tally,
+    next: usize,
+) -> Step
     requires { ⌜ Room n (now coins) (now d) (now s) (now marks) tally × (a < n) ⌝ }
     ensures { λ r. ⌜ MeasureAs n a (now (coins .entry)) (now (d .entry)) (now (s .entry)) (now (marks .entry)) tally next r (now (d .exit)) (now (s .exit)) (now (marks .exit)) ⌝ }
 {
@@ -71,17 +87,26 @@ fn measure(d: &mut [u64; 129], s: &mut [u64; 129], marks: &mut [u8; 4096], n: us
     match shoot(d, s, n, a, coins, used) {
         Shot::Fixed(value) => {
             marks[at] = mark(false, value);
-            Step::Next(next, tally.step(false))
+            Step::Next(next, tally::stepped_numbers(at, tally.random, used, false))
         }
         Shot::Random(value) => {
             marks[at] = mark(true, value);
-            Step::Next(next, tally.step(true))
+            Step::Next(next, tally::stepped_numbers(at, tally.random, used, true))
         }
         Shot::NoCoin => Step::NoCoin,
     }
 }
 
-fn turn(text: &[u8], at: usize, d: &mut [u64; 129], s: &mut [u64; 129], marks: &mut [u8; 4096], n: usize, coins: &[u8], tally: Tally) -> Step
+fn turn(
+    text: &[u8],
+    at: usize,
+    d: &mut [u64; 129],
+    s: &mut [u64; 129],
+    marks: &mut [u8; 4096],
+    n: usize,
+    coins: &[u8],
+    tally: Tally,
+) -> Step
     requires { ⌜ Room n (now coins) (now d) (now s) (now marks) tally ⌝ ∗ ⌜ ((op : Op) (next : ℕ) → Stands op-line (now text) at op next → Valid n op) ⌝ }
     ensures { λ r. ⌜ StepAs (now (text .entry)) at n (now (coins .entry)) (now (d .entry)) (now (s .entry)) (now (marks .entry)) tally r (now (d .exit)) (now (s .exit)) (now (marks .exit)) ⌝ }
 {
@@ -104,7 +129,15 @@ enum Walked {
     NoCoin(usize),
 }
 
-fn walk(text: &[u8], body: usize, d: &mut [u64; 129], s: &mut [u64; 129], marks: &mut [u8; 4096], n: usize, coins: &[u8]) -> Walked
+fn walk(
+    text: &[u8],
+    body: usize,
+    d: &mut [u64; 129],
+    s: &mut [u64; 129],
+    marks: &mut [u8; 4096],
+    n: usize,
+    coins: &[u8],
+) -> Walked
     requires { ⌜ Walkable (now text) body n (now d) (now s) (now marks) ⌝ }
     ensures { λ r. ⌜ WalkAs (now (text .entry)) body n (now (coins .entry)) r (now (d .exit)) (now (s .exit)) (now (marks .exit)) ⌝ }
 {

@@ -36,7 +36,7 @@ new-none PauliX = refl
 new-none PauliY = refl
 new-none PauliZ = refl
 
-gate-blank : (g : Gate) → gate g blank ≡ blank
+pub gate-blank : (g : Gate) → gate g blank ≡ blank
 gate-blank (one g a) = row-eq _ _ (turns-none g) (λ j. ap (λ (l : Letter). cond (eqb j a) l I) (new-none g) ∙ cond-same (eqb j a) I)
 gate-blank (two Cx a b) = row-eq _ _ refl (λ j. ap (cond (eqb j a) I) (cond-same (eqb j b) I) ∙ cond-same (eqb j a) I)
 gate-blank (two Cz a b) = row-eq _ _ refl (λ j. ap (cond (eqb j a) I) (cond-same (eqb j b) I) ∙ cond-same (eqb j a) I)

@@ -1,7 +1,7 @@
-// The tally of a run, stepped at each measurement: by value here.
+// The tally of a run, stepped at each measurement (document 01, "The operations"): by value, and in a struct that is lent by `&mut`. Both forms step plain numbers by `next`; `stepped_numbers` serves whoever has numbers and no reference.
 ghost use mathlib.Core.Path.{_≡_};
-ghost use Prim.Native.Nat.{_<_};
-ghost use Rattle.tally.specs.Tally.{stepped};
+ghost use Prim.Native.Nat.{_+_, _<_};
+ghost use Rattle.tally.specs.Tally.{one-if, stepped};
 
 // Measurements so far, random ones among them, and coins taken.
 pub struct Tally {
@@ -10,22 +10,52 @@ pub struct Tally {
     pub taken: usize,
 }
 
+// One more where it counts.
+fn more(count: usize, counts: bool) -> usize
+    requires { ⌜ count < 4096 ⌝ }
+    ensures { λ r. ⌜ r ≡ count + one-if counts ⌝ }
+{
+    if counts { count + 1 } else { count }
+}
+
+fn next(measured: usize, drawn: usize, taken: usize, random: bool) -> Tally
+    requires { ⌜ (measured < 4096) × (drawn < 4096) × (taken < 4096) ⌝ }
+    ensures { λ r. ⌜ r ≡ stepped random (record { measured = measured; random = drawn; taken = taken }) ⌝ }
+{
+    Tally {
+        measured: more(measured, true),
+        random: more(drawn, random),
+        taken: more(taken, random),
+    }
+}
+
 impl Tally {
     pub fn step(self, random: bool) -> Self
         requires { ⌜ (self .measured < 4096) × (self .random < 4096) × (self .taken < 4096) ⌝ }
         ensures { λ r. ⌜ r ≡ stepped random self ⌝ }
     {
-        if random {
-            return Self {
-                measured: self.measured + 1,
-                random: self.random + 1,
-                taken: self.taken + 1,
-            };
-        }
-        Self {
-            measured: self.measured + 1,
-            random: self.random,
-            taken: self.taken,
-        }
+        next(self.measured, self.random, self.taken, random)
     }
+}
+
+// The struct is taken apart, its counters are stepped, and the struct of the new ones takes its place.
+pub fn step_lent(tally: &mut Tally, random: bool)
+    requires { ⌜ (now tally .measured < 4096) × (now tally .random < 4096) × (now tally .taken < 4096) ⌝ }
+    ensures { λ _. ⌜ now (tally .exit) ≡ stepped random (now (tally .entry)) ⌝ }
+{
+    *tally = next(tally.measured, tally.random, tally.taken, random);
+}
+
+// The struct stands in a local and is lent, so that no reference to it is in the contract and a caller's proof has no walk.
+pub fn stepped_numbers(measured: usize, drawn: usize, taken: usize, random: bool) -> Tally
+    requires { ⌜ (measured < 4096) × (drawn < 4096) × (taken < 4096) ⌝ }
+    ensures { λ r. ⌜ r ≡ stepped random (record { measured = measured; random = drawn; taken = taken }) ⌝ }
+{
+    let mut tally = Tally {
+        measured,
+        random: drawn,
+        taken,
+    };
+    step_lent(&mut tally, random);
+    tally
 }

@@ -16,8 +16,8 @@ mark-requires c κs = search needs
 element-write-marks : tie.Need-element-write-marks
 element-write-marks c = search needs
 
-step-requires : tie.Need-step-requires
-step-requires c κs = search needs
+stepped-numbers-requires : tie.Need-stepped-numbers-requires
+stepped-numbers-requires c κs = search needs
 
 enum-known-value-2 : tie.Need-enum-known-value-2
 enum-known-value-2 c = search needs
@@ -28,8 +28,8 @@ mark-requires-2 c κs = search needs
 element-write-marks-2 : tie.Need-element-write-marks-2
 element-write-marks-2 c = search needs
 
-step-requires-2 : tie.Need-step-requires-2
-step-requires-2 c κs = search needs
+stepped-numbers-requires-2 : tie.Need-stepped-numbers-requires-2
+stepped-numbers-requires-2 c κs = search needs
 
 enum-told : tie.Need-enum-told
 enum-told c = search needs
@@ -39,18 +39,22 @@ returns c =
     let e = c .before .before .before .before .before .before .before .before .before in
     let q = c .before .before .before in
     let w = c .before .before .before .before .before .shoot in
-    let f = rw (q .value .given .1) at (w .ensures .2) in
-    (refl, λ line state v. went-fixed (e .args .n) (e .args .coins .now) state (e .args .d .now) (e .args .s .now) (e .args .marks .now) (e .args .tally) v line (e .args .a) (q .value .given .0 .0) _ _ (c .before .mark .result) (c .step .result)
-    (w .ensures .0) (w .ensures .1) f (c .before .mark .ensures) (c .step .ensures) (e .pre .0 .measured))
+    let f = rw (q .value .given .1) at (w .ensures .2) in (
+      refl,
+      λ line state v. went-fixed (e .args .n) (e .args .coins .now) state (e .args .d .now) (e .args .s .now) (e .args .marks .now) (e .args .tally) v line (e .args .a) (q .value .given .0 .0) _ _ (c .before .mark .result) (c .stepped-numbers .result)
+          (w .ensures .0) (w .ensures .1) f (c .before .mark .ensures) (c .stepped-numbers .ensures) (e .pre .0 .measured),
+    )
 
 returns-2 : tie.Need-returns-2
 returns-2 c =
     let e = c .before .before .before .before .before .before .before .before .before in
     let q = c .before .before .before in
     let w = c .before .before .before .before .before .shoot in
-    let f = rw (q .value2 .given .1) at (w .ensures .2) in
-    (refl, λ line state v. went-random (e .args .n) (e .args .coins .now) state (e .args .d .now) (e .args .s .now) (e .args .marks .now) (e .args .tally) v line (e .args .a) (q .value2 .given .0 .0) _ _ (c .before .mark2 .result) (c .step2 .result)
-    (w .ensures .0) (w .ensures .1) f (c .before .mark2 .ensures) (c .step2 .ensures) (e .pre .0 .measured))
+    let f = rw (q .value2 .given .1) at (w .ensures .2) in (
+      refl,
+      λ line state v. went-random (e .args .n) (e .args .coins .now) state (e .args .d .now) (e .args .s .now) (e .args .marks .now) (e .args .tally) v line (e .args .a) (q .value2 .given .0 .0) _ _ (c .before .mark2 .result) (c .stepped-numbers2 .result)
+          (w .ensures .0) (w .ensures .1) f (c .before .mark2 .ensures) (c .stepped-numbers2 .ensures) (e .pre .0 .measured),
+    )
 
 returns-3 : tie.Need-returns-3
 returns-3 c =
@@ -66,11 +70,11 @@ measure-spec =
     enum-known-value
     mark-requires
     element-write-marks
-    step-requires
+    stepped-numbers-requires
     enum-known-value-2
     mark-requires-2
     element-write-marks-2
-    step-requires-2
+    stepped-numbers-requires-2
     enum-told
     returns
     returns-2

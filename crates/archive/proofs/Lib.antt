@@ -1,0 +1,4 @@
+pub mod Copying
+pub mod Alike
+pub mod Comparing
+pub mod OneAnswer

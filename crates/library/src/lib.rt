@@ -1,0 +1,79 @@
+// The public face of the library: every function that a user calls, with the promise that he relies on. Nothing is required of any argument. Each promise cites
+// a definition in the words of document 01: `check-of` and `meaning` (crate circuit), `run-of` (run), `read-of` (records), `copy-of` and `same-of` (archive),
+// `patch-of` (patch) and `product-of` (product); `Writes`, `Runs` and `Hands` say what becomes of the answer, the coins and the lent bytes.
+ghost use mathlib.Core.Path.{_≡_};
+ghost use Rattle.answers.specs.Refusals.{Writes};
+ghost use Rattle.archive.specs.Copy.{copy-of};
+ghost use Rattle.archive.specs.Same.{same-of, told-same};
+ghost use Rattle.circuit.specs.Promises.{check-of, told-check};
+ghost use Rattle.patch.specs.Patch.{patch-of};
+ghost use Rattle.product.specs.Product.{product-of};
+ghost use Rattle.reading.specs.Answer.{Hands, Reads};
+ghost use Rattle.run.specs.Run.{Runs};
+use answers::Written;
+use archive::Same;
+use circuit::Checked;
+use reading::Sheet;
+
+// n and the number of operations of a circuit text, or one of the refusals 1 to 6 with its line.
+pub fn check(circuit: &[u8]) -> Checked
+    ensures { λ r. ⌜ told-check r ≡ check-of (now (circuit .entry)) ⌝ }
+{
+    circuit::check(circuit)
+}
+
+// Runs a circuit with lent coins and writes its record at the buffer's front. The answer: number, place, the record's length, how many were measured, random and
+// taken. What comes back is the unused rest of the coins; when refused, all of them.
+pub fn run<'c>(circuit: &[u8], coins: &'c [u8], sheet: &mut [u8], answer: &mut [u64; 6]) -> &'c [u8]
+    ensures { λ r. ⌜ Runs (now (circuit .entry)) (now (coins .entry)) (now (sheet .entry)) (now (answer .exit)) (now r) (now (sheet .exit)) ⌝ }
+{
+    run::run(circuit, coins, sheet, answer)
+}
+
+// Reads the last record of the lent bytes: hands out that part of them that holds the outcomes, and the rows in two groups of packed words. The answer: number,
+// place, the record's length, n. When refused, an empty part and the start rows of n = 1.
+pub fn read<'b>(
+    bytes: &'b [u8],
+    destabilizers: &mut [u64; 129],
+    stabilizers: &mut [u64; 129],
+    answer: &mut [u64; 4],
+) -> &'b [u8]
+    ensures { λ r. ⌜ Hands (now (bytes .entry)) (now r) (now (destabilizers .exit)) (now (stabilizers .exit)) (now (answer .exit)) ⌝ }
+{
+    reading::read_record(bytes, destabilizers, stabilizers, answer)
+}
+
+// The same as a whole tableau by value, with the places of the outcomes.
+pub fn read_sheet(bytes: &[u8]) -> Sheet
+    ensures { λ r. ⌜ Reads (now (bytes .entry)) r ⌝ }
+{
+    reading::read(bytes)
+}
+
+// Copies the last record out: reads it, then writes it from what was read.
+pub fn copy(bytes: &[u8], out: &mut [u8]) -> Written
+    ensures { λ r. ⌜ Writes (copy-of (now (bytes .entry))) (now (out .entry)) r (now (out .exit)) ⌝ }
+{
+    archive::copy(bytes, out)
+}
+
+// Applies one gate line to the rows of the last record and keeps its outcomes.
+pub fn patch(bytes: &[u8], line: &[u8], out: &mut [u8]) -> Written
+    ensures { λ r. ⌜ Writes (patch-of (now (bytes .entry)) (now (line .entry))) (now (out .entry)) r (now (out .exit)) ⌝ }
+{
+    patch::patch(bytes, line, out)
+}
+
+// Whether the last records of two lots of bytes describe the same state.
+pub fn same_state(first: &[u8], second: &[u8]) -> Same
+    ensures { λ r. ⌜ told-same r ≡ same-of (now (first .entry)) (now (second .entry)) ⌝ }
+{
+    archive::same_state(first, second)
+}
+
+// The product of two rows, texts in and text out.
+pub fn product(first: &[u8], second: &[u8], out: &mut [u8]) -> Written
+    ensures { λ r. ⌜ Writes (product-of (now (first .entry)) (now (second .entry))) (now (out .entry)) r (now (out .exit)) ⌝ }
+{
+    product::product(first, second, out)
+}

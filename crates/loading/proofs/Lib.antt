@@ -1,0 +1,4 @@
+pub mod Places
+pub mod Stacks
+pub mod Slices
+pub mod OneGroup

@@ -1,0 +1,2 @@
+pub mod GateLines
+pub mod Patching

@@ -1,0 +1,5 @@
+pub mod Numbers
+pub mod WrongPairs
+pub mod Pairing
+pub mod Answers
+pub mod OneAnswer

@@ -1,0 +1,83 @@
+-- What an accepted run is: properly paired rows after every operation, and a record that reads back as the same outcomes and rows, whatever stands before it.
+-- Assumes nothing.
+use mathlib.Core.Path.{_≡_, refl, sym, _∙_, ap, subst}
+use mathlib.Core.List.{List, [], _∷_, _++_, map}
+use Prim.Native.Nat.{ℕ, suc, _≤_}
+use native.Mathlib.Omega.{arith}
+use lib.Dec.{leb}
+use lib.ListN.{length, length-map}
+use Rattle.answers.specs.Verdict.{Verdict, accepted, refused, then, unless}
+use Rattle.clifford.specs.declared.Op.{Op}
+use Rattle.clifford.specs.Tableau.{Paired, start}
+use Rattle.clifford.specs.Run.{State, run, All-valid}
+use Rattle.clifford.proofs.Start.{start-paired}
+use Rattle.clifford.proofs.Running.{Good, run-good, Reached, every-prefix}
+use Rattle.circuit.specs.Text.{Circuit, meaning}
+use Rattle.circuit.specs.Promises.{count-measured, measures}
+use Rattle.circuit.proofs.Walk.{then-accepted, unless-passed}
+use Rattle.circuit.proofs.Meant.{parts}
+use Rattle.records.specs.Record.{mark, record-of, record-length}
+use Rattle.records.specs.Reading.{Read, read-of}
+use Rattle.records.proofs.Lengths.{length-record}
+use Rattle.records.proofs.Held.{Clean, Held}
+use Rattle.records.proofs.Outcomes.{outcomes-marked}
+use Rattle.records.proofs.Start.{start-clean}
+use Rattle.records.proofs.Written.{written-reads}
+use Rattle.run.specs.Run.{Sheet, begin, sheet, run-circuit, run-of}
+use Rattle.run.proofs.Cleanness.{Kept, run-clean}
+use Rattle.run.proofs.Counting.{run-count, measures-one}
+
+-- the circuit of an accepted run, and the state in which it ended
+pub record Accepted-run (text coins : List ℕ) (s : Sheet) : Type 0 where
+  pub circuit : Circuit
+  pub meant : meaning text ≡ accepted circuit
+  pub state : State
+  pub ran : run (circuit .qubits) 2 (circuit .ops) (begin (circuit .qubits) coins) ≡ accepted state
+  pub is : s ≡ sheet (circuit .qubits) state
+
+pub accepted-run : (text coins : List ℕ) (room : ℕ) (s : Sheet) → run-of text coins room ≡ accepted s → Accepted-run text coins s
+unfolding run-of run-circuit
+accepted-run text coins room s e =
+    let m = then-accepted (meaning text) (λ c. unless (leb (record-length (c .qubits) (count-measured (c .ops))) room) 8 0 (run-circuit c coins)) s e in
+    let c = m .value in
+    let u : run-circuit c coins ≡ accepted s = unless-passed (leb (record-length (c .qubits) (count-measured (c .ops))) room) 8 0 (run-circuit c coins) s (m .later) in
+    let r = then-accepted (run (c .qubits) 2 (c .ops) (begin (c .qubits) coins)) (λ f. accepted (sheet (c .qubits) f)) s u in
+    let q : _≡_ {A = Verdict Sheet} (accepted (sheet (c .qubits) (r .value))) (accepted s) = r .later in
+    record { circuit = c; meant = m .first; state = r .value; ran = r .first; is = (let z : sheet (c .qubits) (r .value) ≡ s = cc in sym z) }
+
+module _ (text coins : List ℕ) (s : Sheet) (a : Accepted-run text coins s) where
+  -- after every operation the rows are properly paired: of every prefix of the operations
+  pub prefix-paired : (before later : List Op) → a .circuit .ops ≡ before ++ later → Reached (a .circuit .qubits) 2 before (begin (a .circuit .qubits) coins)
+  prefix-paired before later e =
+      every-prefix (a .circuit .qubits) 2 before later (begin (a .circuit .qubits) coins) (a .state)
+      (valid-front before later (subst (All-valid (a .circuit .qubits)) e (parts text (a .circuit) (a .meant) .valid))) (start-paired (a .circuit .qubits))
+      (ap (λ (o : List Op). run (a .circuit .qubits) 2 o (begin (a .circuit .qubits) coins)) (sym e) ∙ a .ran)
+    where
+      valid-front : (front later : List Op) → All-valid (a .circuit .qubits) (front ++ later) → All-valid (a .circuit .qubits) front
+      valid-front [] later v = tt
+      valid-front (op ∷ front) later v = (v .0, valid-front front later (v .1))
+
+  held : Held (a .circuit .qubits) (map mark (a .state .outcomes)) (a .state .rows)
+  held =
+      let p = parts text (a .circuit) (a .meant) in
+      record {
+        least = p .some-qubits;
+        most = p .few-qubits;
+        few = omega (arith, length-map (a .state .outcomes) mark, run-count (a .circuit .qubits) 2 (a .circuit .ops) (begin (a .circuit .qubits) coins) (a .state) (a .ran), few-measured (a .circuit .ops), p .few-operations);
+        marked = outcomes-marked (a .state .outcomes);
+        paired = subst (Good (a .circuit .qubits)) (a .ran) (run-good (a .circuit .qubits) 2 (a .circuit .ops) (begin (a .circuit .qubits) coins) (p .valid) (start-paired (a .circuit .qubits)));
+        clean = subst (Kept (a .circuit .qubits)) (a .ran) (run-clean (a .circuit .qubits) 2 (a .circuit .ops) (begin (a .circuit .qubits) coins) (p .valid) (start-clean (a .circuit .qubits)));
+      }
+    where
+      few-measured : (ops : List Op) → count-measured ops ≤ length ops
+      few-measured [] = omega arith
+      few-measured (op ∷ ops) = omega (arith, few-measured ops, measures-one op)
+
+  -- the record that the run writes reads back as the same outcomes and rows, after any bytes
+  pub reads-back : (before : List ℕ) → read-of (before ++ s .bytes)
+      ≡ accepted (record { qubits = a .circuit .qubits; size = length (s .bytes); marks = map mark (a .state .outcomes); rows = a .state .rows })
+  reads-back before =
+      let b : s .bytes ≡ record-of (a .circuit .qubits) (a .state .outcomes) (a .state .rows) = ap (λ (u : Sheet). u .bytes) (a .is) in
+      let z : length (s .bytes) ≡ record-length (a .circuit .qubits) (length (map mark (a .state .outcomes))) = ap length b ∙ length-record (a .circuit .qubits) (map mark (a .state .outcomes)) (a .state .rows) in
+      ap (λ (l : List ℕ). read-of (before ++ l)) b ∙ written-reads (a .circuit .qubits) (map mark (a .state .outcomes)) (a .state .rows) held before
+      ∙ ap (λ (k : ℕ). accepted (record { qubits = a .circuit .qubits; size = k; marks = map mark (a .state .outcomes); rows = a .state .rows })) (sym z)

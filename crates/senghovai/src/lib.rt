@@ -1,0 +1,152 @@
+// The functions that C programs link, each thin over the library's own: any bytes, any lengths. Each returns the refusal's number, 0 when accepted, and every
+// call writes all places of `answer`. include/senghovai.h says the same in C.
+ghost use mathlib.Core.Path.{_≡_};
+ghost use Rattle.archive.specs.Copy.{copy-of};
+ghost use Rattle.archive.specs.Same.{same-of};
+ghost use Rattle.circuit.specs.Promises.{check-of};
+ghost use Rattle.patch.specs.Patch.{patch-of};
+ghost use Rattle.product.specs.Product.{product-of};
+ghost use Rattle.records.specs.Reading.{read-of};
+ghost use Rattle.senghovai.specs.Exports.{number-of, check-places, Ran, read-places, Wrote, same-number, same-places, write-places};
+ghost use Rattle.answers.specs.Refusals.{told};
+use answers::Written;
+use archive::Same;
+use circuit::Checked;
+use reading::Found;
+
+#[no_mangle]
+pub extern "C" fn senghovai_check(circuit: &[u8], answer: &mut [u64; 3]) -> u64
+    ensures { λ r. ⌜ (r ≡ number-of (check-of (now (circuit .entry)))) × (now (answer .exit) ≡ check-places (check-of (now (circuit .entry)))) ⌝ }
+{
+    match library::check(circuit) {
+        Checked::Circuit { qubits, operations } => {
+            *answer = [0, qubits as u64, operations as u64];
+            0
+        }
+        Checked::Refused(r) => {
+            *answer = [answers::place(r) as u64, 0, 0];
+            answers::number(r)
+        }
+    }
+}
+
+#[no_mangle]
+pub extern "C" fn senghovai_run(
+    circuit: &[u8],
+    coins: &[u8],
+    sheet: &mut [u8],
+    answer: &mut [u64; 6],
+) -> u64
+    ensures { λ r. ⌜ Ran (now (circuit .entry)) (now (coins .entry)) (now (sheet .entry)) r (now (answer .exit)) (now (sheet .exit)) ⌝ }
+{
+    let mut told = [0u64; 6];
+    let rest = library::run(circuit, coins, sheet, &mut told);
+    *answer = [
+        told[1],
+        told[2],
+        rest.len() as u64,
+        told[3],
+        told[4],
+        told[5],
+    ];
+    told[0]
+}
+
+#[no_mangle]
+pub extern "C" fn senghovai_read(bytes: &[u8], answer: &mut [u64; 5]) -> u64
+    ensures { λ r. ⌜ (r ≡ number-of (read-of (now (bytes .entry)))) × (now (answer .exit) ≡ read-places (now (bytes .entry)) (read-of (now (bytes .entry)))) ⌝ }
+{
+    let sheet = library::read_sheet(bytes);
+    let found = sheet.found;
+    match found {
+        Found::Record { start, outcomes } => {
+            let size = bytes.len() - start;
+            *answer = [
+                0,
+                size as u64,
+                sheet.n as u64,
+                start as u64,
+                outcomes as u64,
+            ];
+            0
+        }
+        Found::Refused(r) => {
+            *answer = [answers::place(r) as u64, 0, 0, 0, 0];
+            answers::number(r)
+        }
+    }
+}
+
+// Place and length of a function that writes bytes.
+fn tell(w: Written, answer: &mut [u64; 2]) -> u64
+    ensures { λ r. ⌜ (r ≡ number-of (told w)) × (now (answer .exit) ≡ write-places (told w)) ⌝ }
+{
+    match w {
+        Written::Bytes(count) => {
+            *answer = [0, count as u64];
+            0
+        }
+        Written::Refused(r) => {
+            *answer = [answers::place(r) as u64, 0];
+            answers::number(r)
+        }
+    }
+}
+
+#[no_mangle]
+pub extern "C" fn senghovai_copy(bytes: &[u8], out: &mut [u8], answer: &mut [u64; 2]) -> u64
+    ensures { λ r. ⌜ Wrote (copy-of (now (bytes .entry))) (now (out .entry)) r (now (answer .exit)) (now (out .exit)) ⌝ }
+{
+    let w = library::copy(bytes, out);
+    tell(w, answer)
+}
+
+#[no_mangle]
+pub extern "C" fn senghovai_patch(
+    bytes: &[u8],
+    line: &[u8],
+    out: &mut [u8],
+    answer: &mut [u64; 2],
+) -> u64
+    ensures { λ r. ⌜ Wrote (patch-of (now (bytes .entry)) (now (line .entry))) (now (out .entry)) r (now (answer .exit)) (now (out .exit)) ⌝ }
+{
+    let w = library::patch(bytes, line, out);
+    tell(w, answer)
+}
+
+#[no_mangle]
+pub extern "C" fn senghovai_product(
+    first: &[u8],
+    second: &[u8],
+    out: &mut [u8],
+    answer: &mut [u64; 2],
+) -> u64
+    ensures { λ r. ⌜ Wrote (product-of (now (first .entry)) (now (second .entry))) (now (out .entry)) r (now (answer .exit)) (now (out .exit)) ⌝ }
+{
+    let w = library::product(first, second, out);
+    tell(w, answer)
+}
+
+#[no_mangle]
+pub extern "C" fn senghovai_same(first: &[u8], second: &[u8], answer: &mut [u64; 3]) -> u64
+    ensures { λ r. ⌜ (r ≡ same-number (same-of (now (first .entry)) (now (second .entry)))) × (now (answer .exit) ≡ same-places (same-of (now (first .entry)) (now (second .entry)))) ⌝ }
+{
+    match library::same_state(first, second) {
+        Same::Equal => {
+            *answer = [0, 0, 1];
+            0
+        }
+        Same::Different => {
+            *answer = [0, 0, 0];
+            0
+        }
+        Same::First(r) => {
+            *answer = [1, answers::place(r) as u64, 0];
+            answers::number(r)
+        }
+        Same::Second(r) => {
+            *answer = [2, answers::place(r) as u64, 0];
+            answers::number(r)
+        }
+    }
+}
