@@ -10,6 +10,9 @@ typedef u64 Run(const u8 *circuit, u64 circuit_len, const u8 *coins, u64 coins_l
 /* The three run functions: the library's, rows.c's, best.c's. */
 extern Run *const runs[3];
 
+typedef u64 Check(const u8 *circuit, u64 circuit_len, u64 answer[3]);
+extern Check *const checks[3];
+
 /* 1 when all three give the same number, the same answer and the same bytes in the buffer. */
 int agree_run(const u8 *text, u64 length, const u8 *coins, u64 coins_len, u64 record_len, u64 *number);
 int agree_check(const u8 *text, u64 length);

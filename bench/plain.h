@@ -15,6 +15,7 @@ extern int memcmp(const void *a, const void *b, u64 length);
 u64 rows_run(const u8 *circuit, u64 circuit_len, const u8 *coins, u64 coins_len,
              u8 *record, u64 record_len, u64 answer[6]);
 
+u64 rows_check(const u8 *circuit, u64 circuit_len, u64 answer[3]);
 u64 best_check(const u8 *circuit, u64 circuit_len, u64 answer[3]);
 u64 best_run(const u8 *circuit, u64 circuit_len, const u8 *coins, u64 coins_len,
              u8 *record, u64 record_len, u64 answer[6]);

@@ -84,3 +84,12 @@ u64 rows_parse(Circuit *c, const u8 *text, u64 length, u64 *place)
     *place = 0;
     return 0;
 }
+
+u64 rows_check(const u8 *circuit, u64 circuit_len, u64 answer[3])
+{
+    static Circuit c;
+    u64 number = rows_parse(&c, circuit, circuit_len, &answer[0]);
+    answer[1] = number ? 0 : (u64)c.n;
+    answer[2] = number ? 0 : (u64)c.count;
+    return number;
+}

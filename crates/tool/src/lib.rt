@@ -1,0 +1,177 @@
+// What the programs behind `./senghovai` share: opening a file that a word names, reading a circuit or the tail of an archive, saying a refusal, and writing a
+// record to a file. Files are read whole or by their tail into buffers of fixed size, so that an archive may have any size.
+ghost use mathlib.Core.Path.{_≡_};
+ghost use lib.ListN.{length};
+ghost use Rattle.io.specs.Counts.{Counts};
+use answers::Refusal;
+use libc::STDERR_FILENO;
+use libc::STDOUT_FILENO;
+
+// Room for the longest record.
+pub fn tail_buffer() -> [u8; 12428]
+    ensures { λ r. ⌜ 12428 ≡ length r ⌝ }
+{
+    [0; 12428]
+}
+
+// One byte more than the longest circuit file that is read.
+pub fn circuit_buffer() -> [u8; 131073]
+    ensures { λ r. ⌜ 131073 ≡ length r ⌝ }
+{
+    [0; 131073]
+}
+
+// One byte more than the longest coin file that is read.
+pub fn coin_buffer() -> [u8; 65537]
+    ensures { λ r. ⌜ 65537 ≡ length r ⌝ }
+{
+    [0; 65537]
+}
+
+// Room for the longest text that a run prints.
+pub fn print_buffer() -> [u8; 78080]
+    ensures { λ r. ⌜ 78080 ≡ length r ⌝ }
+{
+    [0; 78080]
+}
+
+pub fn complain(text: &[u8]) {
+    io::write_all(STDERR_FILENO, text);
+}
+
+// The file of that name for reading, or -1 after one line that says why not. Only a file that can be read from any place is taken.
+fn open_named(name: &[u8]) -> i32 {
+    let fd = os::open_read(name);
+    if fd < 0 {
+        io::write_all(
+            STDERR_FILENO,
+            b"cannot open, name a file that can be read: ",
+        );
+        os::fail(name);
+        return -1;
+    }
+    let mut one = [0u8; 1];
+    if libc::pread(fd, &mut one, 0) < 0 {
+        io::write_all(STDERR_FILENO, b"cannot read, name a regular file: ");
+        os::fail(name);
+        libc::close(fd);
+        return -1;
+    }
+    fd
+}
+
+// The same for the i-th word of the command line.
+pub fn open_word(i: usize) -> i32 {
+    let mut name = io::buffer();
+    let n = os::arg(i, &mut name);
+    if os::errno() != 0 {
+        complain(b"a file's name is missing or too long: ./senghovai prints the words to give\n");
+        return -1;
+    }
+    open_named(&name[..n])
+}
+
+// Reads from the descriptor's position until the buffer is full or the file ends, and closes it.
+pub fn fill(fd: i32, buf: &mut [u8]) -> usize
+    ensures { λ r. ⌜ Counts r (now (buf .exit)) ⌝ }
+{
+    let n = io::read_full(fd, buf);
+    libc::close(fd);
+    n
+}
+
+// The same for the last 12,428 bytes of a file, or all of it where there are fewer.
+pub fn fill_tail(fd: i32, buf: &mut [u8]) -> usize
+    ensures { λ r. ⌜ Counts r (now (buf .exit)) ⌝ }
+{
+    if libc::lseek(fd, -12428, libc::SEEK_END) < 0 {
+        libc::lseek(fd, 0, libc::SEEK_SET);
+    }
+    fill(fd, buf)
+}
+
+// n where the buffer has as many bytes, else all that it has.
+pub fn within(n: usize, buf: &[u8]) -> usize
+    ensures { λ r. ⌜ Counts r (now (buf .entry)) ⌝ }
+{
+    if n < buf.len() { n } else { buf.len() }
+}
+
+// Puts an end byte behind the first n bytes, and answers how many there are with it; without room for it, none.
+pub fn with_end(line: &mut [u8], n: usize) -> usize
+    ensures { λ r. ⌜ Counts r (now (line .exit)) ⌝ }
+{
+    if n < line.len() {
+        line[n] = b'\n';
+        return n + 1;
+    }
+    0
+}
+
+pub fn say(text: &[u8]) {
+    io::write_all(STDOUT_FILENO, text);
+}
+
+pub fn say_number(number: u64) {
+    io::print_decimal(STDOUT_FILENO, number);
+}
+
+// Number and place of a refusal, and the line's end.
+pub fn say_refused(number: u64, place: u64) {
+    say(b"refused ");
+    say_number(number);
+    say(b" ");
+    say_number(place);
+    say(b"\n");
+}
+
+pub fn refuse(r: Refusal) {
+    say_refused(answers::number(r), answers::place(r) as u64);
+}
+
+// Writes the bytes and closes the file, and answers whether all were written; one line says where they were not.
+fn put(fd: i32, name: &[u8], bytes: &[u8]) -> bool {
+    if fd < 0 {
+        io::write_all(
+            STDERR_FILENO,
+            b"cannot write, name a file that can be written: ",
+        );
+        os::fail(name);
+        return false;
+    }
+    let is_written = io::write_all(fd, bytes);
+    if !is_written {
+        io::write_all(
+            STDERR_FILENO,
+            b"written in part, make room and do it again: ",
+        );
+        os::fail(name);
+    }
+    libc::close(fd);
+    is_written
+}
+
+// Makes the file that the i-th word names hold the bytes alone.
+pub fn save(i: usize, bytes: &[u8]) -> bool {
+    let mut name = io::buffer();
+    let n = os::arg(i, &mut name);
+    let fd = os::open_overwrite(&name[..n]);
+    put(fd, &name[..n], bytes)
+}
+
+// The file of that name for writing at its back, made where it is missing.
+fn open_back(name: &[u8]) -> i32 {
+    let fd = os::open_append(name);
+    if fd < 0 {
+        return os::create(name);
+    }
+    fd
+}
+
+// Puts the bytes at the back of the file that the i-th word names.
+pub fn append(i: usize, bytes: &[u8]) -> bool {
+    let mut name = io::buffer();
+    let n = os::arg(i, &mut name);
+    let fd = open_back(&name[..n]);
+    put(fd, &name[..n], bytes)
+}

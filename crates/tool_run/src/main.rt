@@ -1,0 +1,57 @@
+// Runs the circuit of the first file named with the coins of the second, appends the record to the archive that the third names, and prints the outcomes and
+// the rows; or prints the refusal and changes no file. A crash in mid-append leaves at worst a torn tail behind the records that were there.
+use answers::Written;
+
+// The longest printed text has 78,080 bytes.
+fn print(circuit: &[u8], coins: &[u8]) {
+    let mut out = tool::print_buffer();
+    match print::print(circuit, coins, &mut out) {
+        Written::Bytes(size) => {
+            let n = tool::within(size, &out);
+            tool::say(&out[..n]);
+        }
+        Written::Refused(r) => tool::refuse(r),
+    }
+}
+
+fn run(circuit: &[u8], coins: &[u8]) {
+    let mut sheet = tool::tail_buffer();
+    let mut answer = [0u64; 6];
+    library::run(circuit, coins, &mut sheet, &mut answer);
+    if answer[0] != 0 {
+        tool::say_refused(answer[0], answer[1]);
+        return;
+    }
+    let n = tool::within(answer[2] as usize, &sheet);
+    if tool::append(3, &sheet[..n]) {
+        print(circuit, coins);
+    }
+}
+
+fn with_coins(circuit: &[u8]) {
+    let fd = tool::open_word(2);
+    if fd < 0 {
+        return;
+    }
+    let mut coins = tool::coin_buffer();
+    let n = tool::fill(fd, &mut coins);
+    if n > 65536 {
+        tool::complain(b"there are too many coins: give a file of at most 65536 bytes\n");
+        return;
+    }
+    run(circuit, &coins[..n]);
+}
+
+fn main() {
+    let fd = tool::open_word(1);
+    if fd < 0 {
+        return;
+    }
+    let mut text = tool::circuit_buffer();
+    let n = tool::fill(fd, &mut text);
+    if n > 131072 {
+        tool::complain(b"the circuit is too long: give a file of at most 131072 bytes\n");
+        return;
+    }
+    with_coins(&text[..n]);
+}
