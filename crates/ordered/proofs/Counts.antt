@@ -1,6 +1,6 @@
 -- Powers of i that are counted by numbers: sums of bits in words, and the sign of the total. Assumes nothing.
 use mathlib.Core.Path.{_≡_, refl, sym, ap, ap₂, _∙_}
-use mathlib.Core.Bool.{Bool, true, false}
+use mathlib.Core.Bool.{Bool, true, false, _&&_}
 use mathlib.Core.List.{[], _∷_}
 use Prim.Native.Nat.{ℕ, zero, suc, _*_, _/_, _%_, _^_, _<_}
 use Prim.Native.Nat.{_+_ as _∔_}
@@ -17,7 +17,7 @@ use Rattle.pauli.proofs.Sums.{sum-map}
 use Rattle.pauli.proofs.LetterLaws.{sign-plus}
 use Rattle.words.specs.Bit.{bit}
 use Rattle.words.proofs.BitLaws.{bit-low, bit-suc}
-use Rattle.ordered.specs.Column.{power-of, three}
+use Rattle.ordered.specs.Column.{count, power-of, three}
 
 -- ---- the power of a sum
 
@@ -48,10 +48,6 @@ minus-power (suc (suc (suc (suc n)))) =
     round (power-of n) ∙ minus-power n ∙ ap (λ (d : ℕ). eqb d 1) e
 
 -- ---- the bits of a word
-
-abbrev pub count : Bool → ℕ
-count true = 1
-count false = 0
 
 count-digit : (d : ℕ) → d < 2 → d ≡ count (eqb d 1)
 count-digit zero h = refl
@@ -112,9 +108,34 @@ pub twos-odd : (k n : ℕ) → n < 2 ^ k → power-of (2 * ones n) ≡ sign (odd
 twos-odd k n h = twos k n h ∙ sym (sum-map false _⊕_ i0 _+_ sign refl sign-plus (λ r. bit r n) k)
 
 -- `w >> 63`
-pub top-bit : (w : ℕ) → w < 2 ^ 64 → w / 2 ^ 63 ≡ count (bit 63 w)
+top-bit : (w : ℕ) → w < 2 ^ 64 → w / 2 ^ 63 ≡ count (bit 63 w)
 unfolding bit
 top-bit w h =
     let l : w / 2 ^ 63 < 2 = shr-lt 1 63 h in
     let e : w / 2 ^ 63 ≡ w / 2 ^ 63 % 2 = omega arith in
     e ∙ count-digit (w / 2 ^ 63 % 2) (mod-lt (w / 2 ^ 63) (zero-lt-suc 1))
+
+-- `w >> 63 == 1`
+top-set : (w : ℕ) → w / 2 ^ 63 ≡ 1 → bit 63 w ≡ true
+unfolding bit
+top-set w e = ap (λ (d : ℕ). eqb (d % 2) 1) e
+
+top-clear : (w : ℕ) → w < 2 ^ 64 → (w / 2 ^ 63 ≡ 1 → ⊥) → bit 63 w ≡ false
+top-clear w h e = go (bit 63 w) (top-bit w h)
+  where
+    go : (b : Bool) → w / 2 ^ 63 ≡ count b → b ≡ false
+    go true f = absurd (e f)
+    go false f = refl
+
+and-true : (b : Bool) → (b && true) ≡ b
+and-true = cases.tested (cases.bit ∷ []) cases.bit _ _ tt
+
+and-false : (b : Bool) → (b && false) ≡ false
+and-false = cases.tested (cases.bit ∷ []) cases.bit _ _ tt
+
+-- the top bit of q, where p has its own; and 0 where it has not
+pub both-set : (b : Bool) (q p : ℕ) → q < 2 ^ 64 → bit 63 q ≡ b → p / 2 ^ 63 ≡ 1 → q / 2 ^ 63 ≡ count (b && bit 63 p)
+both-set b q p h e f = top-bit q h ∙ ap count (e ∙ sym (and-true b) ∙ ap (λ (c : Bool). b && c) (sym (top-set p f)))
+
+pub both-clear : (b : Bool) (p : ℕ) → p < 2 ^ 64 → (p / 2 ^ 63 ≡ 1 → ⊥) → 0 ≡ count (b && bit 63 p)
+both-clear b p h f = ap count (sym (and-false b) ∙ ap (λ (c : Bool). b && c) (sym (top-clear p h f)))

@@ -1,5 +1,6 @@
 pub mod Exchange
 pub mod Shifts
 pub mod Counts
-pub mod Passes
+pub mod Pass
 pub mod Tied
+pub mod Single

@@ -50,7 +50,7 @@ shl-below k s w h l =
     cut k (w * 2 ^ s) h ∙ ap (λ (m : ℕ). bit k (w * 2 ^ m)) e ∙ under k (s - suc k) w
 
 -- bit k of `w >> s`
-shr-at : (k s w : ℕ) → bit k (w / 2 ^ s) ≡ bit (s + k) w
+pub shr-at : (k s w : ℕ) → bit k (w / 2 ^ s) ≡ bit (s + k) w
 unfolding bit
 shr-at k s w = ap (λ (m : ℕ). eqb (m % 2) 1) (shr-shr w s k)
 

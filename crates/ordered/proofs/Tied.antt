@@ -39,7 +39,7 @@ unfolding row-at
 letter-row n w i j h = rw (lt-ltb j n h)
 
 module _ (n a : ℕ) (d s : List ℕ) (h : a < n) where
-  x-group : (r : ℕ) → has-x a (group-rows n d r) ≡ (ltb r n && bit r (getD d a 0))
+  pub x-group : (r : ℕ) → has-x a (group-rows n d r) ≡ (ltb r n && bit r (getD d a 0))
   unfolding group-rows
   x-group r =
       x-of (ltb r n) (row-at n d r) a

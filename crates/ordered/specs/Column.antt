@@ -14,6 +14,11 @@ unfoldable pub power-of : ℕ → Power
 power-of zero = i0
 power-of (suc n) = next (power-of n)
 
+-- what holds counts 1, and adds three
+abbrev pub count : Bool → ℕ
+count true = 1
+count false = 0
+
 abbrev pub three : Bool → Power
 three false = i0
 three true = i3
