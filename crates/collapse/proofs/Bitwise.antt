@@ -1,12 +1,12 @@
 -- The word operations of one column, bit by bit. Assumes nothing.
-use mathlib.Core.Path.{_≡_, ap₂, _∙_}
-use mathlib.Core.Bool.{Bool, false, not, _&&_, cond}
+use mathlib.Core.Path.{_≡_, sym, ap, ap₂, _∙_}
+use mathlib.Core.Bool.{Bool, false, not, _&&_, _||_, cond}
 use mathlib.Core.List.{[], _∷_}
-use Prim.Native.Nat.{ℕ, _-_, _*_, _%_, _^_, _<_}
-use lib.Bits.{bitAnd, bitXor}
+use Prim.Native.Nat.{ℕ, _-_, _*_, _/_, _%_, _^_, _<_}
+use lib.Bits.{bitAnd, bitOr, bitXor}
 use lib.Dec.{eqb}
 use Rattle.words.specs.Bit.{bit}
-use Rattle.words.proofs.BitLaws.{bit-xor, bit-and, bit-ones, bit-shl}
+use Rattle.words.proofs.BitLaws.{bit-xor, bit-and, bit-or, bit-ones, bit-clear, bit-shl}
 use Rattle.pauli.specs.Letters.{I, letter, _⊕_, _·_, power, _+_ as _⊹_}
 use Rattle.pauli.specs.Rows.{minus-sign}
 use Rattle.pauli.proofs.Cases.{tested, bit as bool, ltr, pow}
@@ -64,3 +64,10 @@ kept-sign i p s m h n il pl = go (keep p) (bit-keep i p il pl)
 -- the high bit of a count is its sign
 pub count-sign : (h l : Bool) → minus-sign (counted h l) ≡ h
 count-sign = tested (bool ∷ bool ∷ []) bool _ _ tt
+
+or-letter : (x z : Bool) → letter x z ≡ cond (x || z) (letter x z) I
+or-letter = tested (bool ∷ bool ∷ []) ltr _ _ tt
+
+-- row p has I where neither word has its bit, as the code's `((x | z) >> p) & 1 == 1` tests it
+pub no-letter : (p x z : ℕ) → (bitAnd (bitOr x z / 2 ^ p) 1 ≡ 1 → ⊥) → letter (bit p x) (bit p z) ≡ I
+no-letter p x z e = or-letter (bit p x) (bit p z) ∙ ap (λ (b : Bool). cond b (letter (bit p x) (bit p z)) I) (sym (bit-or p x z) ∙ bit-clear p (bitOr x z) e)

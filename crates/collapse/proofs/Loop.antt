@@ -1,7 +1,7 @@
 -- The pass over the columns: what holds of a group after j of them, and of its rows after all. Assumes nothing.
-use mathlib.Core.Path.{_≡_, refl, sym, ap, ap₂, _∙_, subst}
+use mathlib.Core.Path.{_≡_, refl, sym, ap, ap₂, _∙_, subst, subst⁻¹}
 use mathlib.Core.Bool.{Bool, true, false, _&&_, cond}
-use mathlib.Core.List.{List}
+use mathlib.Core.List.{List, [], _∷_}
 use mathlib.Core.Logic.{⊎-elim}
 use Prim.Native.Nat.{ℕ, _+_, _≤_, _<_}
 use native.Mathlib.Nat.{eq-or-lt-of-le, le-of-suc-le-suc}
@@ -10,19 +10,21 @@ use native.Mathlib.Omega.{arith}
 use lib.Bits.{bitAnd, bitXor}
 use lib.Dec.{eqb, ltb}
 use lib.ListN.{getD, set, length-set}
+use borrow.Author.Tests.{eqb-true}
 use Rattle.words.specs.Bit.{bit}
 use Rattle.words.proofs.BitLaws.{bit-zero}
 use Rattle.pauli.specs.Letters.{Letter, I, letter, Power, i0, _⊕_, _·_, power, _+_ as _⊹_}
 use Rattle.pauli.specs.Rows.{Letters, Row, total, minus-sign, times-row}
+use Rattle.pauli.proofs.Cases.{tested, bit as bool, ltr, pow}
 use Rattle.pauli.proofs.Sums.{sum-cong}
 use Rattle.pauli.proofs.LetterLaws.{xor-adds, power-adds}
 use Rattle.pauli.proofs.RowLaws.{times-minus}
 use Rattle.clifford.specs.Tableau.{blank}
 use Rattle.packing.specs.View.{Words, letter-at, row-at}
 use Rattle.columns.proofs.Views.{cond-same, row-eq, guard, guard-in, guard-out, guarded}
-use Rattle.columns.proofs.Stores.{same-letter, put, put-words, put-other, put-letter, put-letters, sign-set, sign-letters}
+use Rattle.columns.proofs.Stores.{same-letter, put, put-words, put-other, put-letter, put-letters, sign-set, sign-letters, keep-both}
 use Rattle.collapse.specs.declared.Column.{Column}
-use Rattle.collapse.specs.Steps.{counted, column, Stepped, without, Multiplied}
+use Rattle.collapse.specs.Steps.{counted, column, letter-in, count-in, Stepped, without, Multiplied}
 use Rattle.collapse.proofs.Bitwise.{keep, kept-letter, kept-sign, count-sign}
 
 -- the letters of row i, but row p is all I
@@ -50,11 +52,15 @@ count-more : (b : Bool) (c p t : Power) → c ≡ cond b t i0 → cond b (c ⊹ 
 count-more true c p t e = ap (λ (d : Power). d ⊹ p) e
 count-more false c p t e = e
 
-module _ (p m : ℕ) (q : Letters) (w₀ : List ℕ) (j : ℕ) (w : List ℕ) (hi lo : ℕ) (pl : p < 64) (a : Multiplying p m q w₀ j w hi lo) where
-  pub multiply-more : (px pz : ℕ) (r : Column) → j < 64 → ((i : ℕ) → i < 64 → letter (bit i px) (bit i pz) ≡ q j)
-      → Stepped (column (bitAnd (getD w j 0) (keep p)) (bitAnd (getD w (64 + j) 0) (keep p)) hi lo) px pz m r
+module _ (p m : ℕ) (q : Letters) (w₀ : List ℕ) (j : ℕ) (w : List ℕ) (hi lo : ℕ) (pl : p < 64) (a : Multiplying p m q w₀ j w hi lo) (jl : j < 64) where
+  abbrev count : ℕ → Power
+  count i = counted (bit i hi) (bit i lo)
+
+  -- one more column, which is now r
+  multiply-column : (r : Column) → ((i : ℕ) → i < 64 → letter-in r i ≡ cond (bit i m) (kept p w₀ i j · q j) (kept p w₀ i j))
+      → ((i : ℕ) → i < 64 → count-in r i ≡ cond (bit i m) (count i ⊹ power (kept p w₀ i j) (q j)) (count i))
       → Multiplying p m q w₀ (j + 1) (put w j (r .x) (r .z)) (r .hi) (r .lo)
-  multiply-more px pz r jl eq st = record {
+  multiply-column r letters counts = record {
     words = put-words w (a .words) j jl (r .x) (r .z);
     sign = put-other w (a .words) j jl (r .x) (r .z) 128 (omega arith) (omega arith) ∙ a .sign;
     done = λ k i l il. ⊎-elim (at-j k i il) (before k i il) (eq-or-lt-of-le (le-of-suc-le-suc (subst (λ (n : ℕ). k < n) (add-one j) l)));
@@ -62,24 +68,62 @@ module _ (p m : ℕ) (q : Letters) (w₀ : List ℕ) (j : ℕ) (w : List ℕ) (h
       put-other w (a .words) j jl (r .x) (r .z) k (omega arith) (omega arith) ∙ a .rest k (omega arith) h .0,
       put-other w (a .words) j jl (r .x) (r .z) (64 + k) (omega arith) (omega arith) ∙ a .rest k (omega arith) h .1,
     );
-    counts = λ i il. st .counts i
-        ∙ ap₂ (λ (u v : Letter). cond (bit i m) (counted (bit i hi) (bit i lo) ⊹ power u v) (counted (bit i hi) (bit i lo))) (old i il) (eq i il)
-        ∙ count-more (bit i m) (counted (bit i hi) (bit i lo)) (power (kept p w₀ i j) (q j)) (total j (kept p w₀ i) q) (a .counts i il)
+    counts = λ i il. counts i il
+        ∙ count-more (bit i m) (count i) (power (kept p w₀ i j) (q j)) (total j (kept p w₀ i) q) (a .counts i il)
         ∙ ap (λ (n : ℕ). cond (bit i m) (total n (kept p w₀ i) q) i0) (sym (add-one j));
   }
     where
-      old : (i : ℕ) → i < 64 → letter (bit i (bitAnd (getD w j 0) (keep p))) (bit i (bitAnd (getD w (64 + j) 0) (keep p))) ≡ kept p w₀ i j
-      old i il =
-          kept-letter i p (getD w j 0) (getD w (64 + j) 0) il pl
-          ∙ ap (cond (eqb i p) I) (same-letter i _ _ _ _ (a .rest j (omega arith) jl .0) (a .rest j (omega arith) jl .1))
-
       at-j : (k i : ℕ) → i < 64 → k ≡ j → letter-at (put w j (r .x) (r .z)) i k ≡ cond (bit i m) (kept p w₀ i k · q k) (kept p w₀ i k)
-      at-j k i il e =
-          rw e
-          (put-letter w (a .words) j jl (r .x) (r .z) i ∙ st .letters i ∙ ap₂ (λ (u v : Letter). cond (bit i m) (u · v) u) (old i il) (eq i il))
+      at-j k i il e = rw e (put-letter w (a .words) j jl (r .x) (r .z) i ∙ letters i il)
 
       before : (k i : ℕ) → i < 64 → k < j → letter-at (put w j (r .x) (r .z)) i k ≡ cond (bit i m) (kept p w₀ i k · q k) (kept p w₀ i k)
       before k i il l = put-letters w (a .words) j jl (r .x) (r .z) i k (omega arith) (λ e. omega arith) ∙ a .done k i l il
+
+  -- the column before it, with row p cleared
+  same : (i : ℕ) → letter (bit i (getD w j 0)) (bit i (getD w (64 + j) 0)) ≡ letter-at w₀ i j
+  same i = same-letter i _ _ _ _ (a .rest j (omega arith) jl .0) (a .rest j (omega arith) jl .1)
+
+  old : (i : ℕ) → i < 64 → letter (bit i (bitAnd (getD w j 0) (keep p))) (bit i (bitAnd (getD w (64 + j) 0) (keep p))) ≡ kept p w₀ i j
+  old i il = kept-letter i p (getD w j 0) (getD w (64 + j) 0) il pl ∙ ap (cond (eqb i p) I) (same i)
+
+  pub multiply-more : (px pz : ℕ) (r : Column) → ((i : ℕ) → i < 64 → letter (bit i px) (bit i pz) ≡ q j)
+      → Stepped (column (bitAnd (getD w j 0) (keep p)) (bitAnd (getD w (64 + j) 0) (keep p)) hi lo) px pz m r
+      → Multiplying p m q w₀ (j + 1) (put w j (r .x) (r .z)) (r .hi) (r .lo)
+  multiply-more px pz r eq st =
+      multiply-column r (λ i il. st .letters i ∙ ap₂ (λ (u v : Letter). cond (bit i m) (u · v) u) (old i il) (eq i il))
+      (λ i il. st .counts i ∙ ap₂ (λ (u v : Letter). cond (bit i m) (count i ⊹ power u v) (count i)) (old i il) (eq i il))
+
+  -- times I nothing changes but that row p is cleared
+  module _ (nothing : q j ≡ I) where
+    times-I : (b : Bool) (l : Letter) → l ≡ cond b (l · I) l
+    times-I = tested (bool ∷ ltr ∷ []) ltr _ _ tt
+
+    power-I : (b : Bool) (c : Power) (l : Letter) → c ≡ cond b (c ⊹ power l I) c
+    power-I = tested (bool ∷ pow ∷ ltr ∷ []) pow _ _ tt
+
+    passed : (u v : ℕ) → ((i : ℕ) → i < 64 → letter (bit i u) (bit i v) ≡ kept p w₀ i j) → Multiplying p m q w₀ (j + 1) (put w j u v) hi lo
+    passed u v e =
+        multiply-column (column u v hi lo)
+        (λ i il. e i il ∙ times-I (bit i m) (kept p w₀ i j) ∙ ap (λ (l : Letter). cond (bit i m) (kept p w₀ i j · l) (kept p w₀ i j)) (sym nothing))
+        (λ i il. power-I (bit i m) (count i) (kept p w₀ i j) ∙ ap (λ (l : Letter). cond (bit i m) (count i ⊹ power (kept p w₀ i j) l) (count i)) (sym nothing))
+
+    pub multiply-clear : Multiplying p m q w₀ (j + 1) (put w j (bitAnd (getD w j 0) (keep p)) (bitAnd (getD w (64 + j) 0) (keep p))) hi lo
+    multiply-clear = passed _ _ old
+
+    -- where row p has I already, all stays
+    pub multiply-over : letter-at w₀ p j ≡ I → Multiplying p m q w₀ (j + 1) w hi lo
+    multiply-over clear =
+        subst⁻¹ (λ (l : List ℕ). Multiplying p m q w₀ (j + 1) l hi lo) (keep-both w j)
+        (passed (getD w j 0) (getD w (64 + j) 0) (λ i il. same i ∙ go i (eqb i p) refl))
+      where
+        go : (i : ℕ) (b : Bool) → eqb i p ≡ b → letter-at w₀ i j ≡ cond b I (letter-at w₀ i j)
+        go i true e = rw (eqb-true i p e) clear
+        go i false e = refl
+
+-- the same with other names
+pub multiplying-same : {p m : ℕ} {q : Letters} {w₀ : List ℕ} {j : ℕ} {w w′ : List ℕ} {hi lo hi′ lo′ : ℕ}
+    → Multiplying p m q w₀ j w hi lo → w′ ≡ w → hi′ ≡ hi → lo′ ≡ lo → Multiplying p m q w₀ j w′ hi′ lo′
+multiplying-same a ew eh el = rw (ew, eh, el) a
 
 -- a row without p, by its sign and letters
 without-is : (n p : ℕ) (w : List ℕ) (i : ℕ) → without n p w i ≡ record { minus = cond (eqb i p) false (bit i (getD w 128 0)); letters = guard n (kept p w i) }

@@ -41,7 +41,8 @@ fn splat(w: u64, j: usize) -> u64
     if (w >> j) & 1 == 1 { u64::MAX } else { 0 }
 }
 
-// In each group, row p cleared and then every row under the group's mask times old row p of s.
+// In each group, row p cleared and then every row under the group's mask times old row p of s. In a column where that row has I nothing is
+// multiplied, and s has nothing to clear.
 fn multiply(d: &mut [u64; 129], s: &mut [u64; 129], n: usize, p: usize, md: u64, ms: u64)
     requires { ⌜ Words (now d) × Words (now s) × (n ≤ 64) × (p < 64) ⌝ }
     ensures { λ _. ⌜ Multiplied n p md (row-at n (now (s .entry)) p) (now (d .entry)) (now (d .exit)) × Multiplied n p ms (row-at n (now (s .entry)) p) (now (s .entry)) (now (s .exit)) ⌝ }
@@ -55,22 +56,25 @@ fn multiply(d: &mut [u64; 129], s: &mut [u64; 129], n: usize, p: usize, md: u64,
     while j < n {
         let x = s[j];
         let z = s[64 + j];
-        let kx = x & keep;
-        let kz = z & keep;
-        let px = splat(x, p);
-        let pz = splat(z, p);
-        let new = step(kx, kz, sh, sl, px, pz, ms);
-        s[j] = new.x;
-        s[64 + j] = new.z;
-        sh = new.hi;
-        sl = new.lo;
         let dx = d[j] & keep;
         let dz = d[64 + j] & keep;
-        let next = step(dx, dz, dh, dl, px, pz, md);
-        d[j] = next.x;
-        d[64 + j] = next.z;
-        dh = next.hi;
-        dl = next.lo;
+        if ((x | z) >> p) & 1 == 1 {
+            let px = splat(x, p);
+            let pz = splat(z, p);
+            let new = step(x & keep, z & keep, sh, sl, px, pz, ms);
+            s[j] = new.x;
+            s[64 + j] = new.z;
+            sh = new.hi;
+            sl = new.lo;
+            let next = step(dx, dz, dh, dl, px, pz, md);
+            d[j] = next.x;
+            d[64 + j] = next.z;
+            dh = next.hi;
+            dl = next.lo;
+        } else {
+            d[j] = dx;
+            d[64 + j] = dz;
+        }
         j += 1;
     }
     let sign = s[128];
