@@ -1,4 +1,5 @@
 pub mod Placing
+pub mod Bytes
 pub mod Texts
 pub mod Parts
 pub mod Packed

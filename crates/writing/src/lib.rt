@@ -1,24 +1,50 @@
 // The run record, written into a lent buffer: the outcome characters, the 2n rows, and the trailer that points back. Each part
-// writes its text at a position and leaves the rest of the buffer as it was.
+// writes its text at a position and leaves the rest of the buffer as it was. The bits of the rows are first put into bytes, so that
+// letters are made sixteen at a time in one register.
 ghost use mathlib.Core.Path.{_≡_};
 ghost use mathlib.Core.List.{[], _∷_};
 ghost use Prim.Native.Nat.{_+_, _*_, _≤_, _<_};
 ghost use lib.ListN.{length};
 ghost use Rattle.answers.specs.Verdict.{over};
+ghost use Rattle.pauli.specs.Letters.{letter};
 ghost use Rattle.pauli.specs.Texts.{letter-byte, sign-byte, row-text};
 ghost use Rattle.words.specs.Bit.{bit};
-ghost use Rattle.packing.specs.View.{letter-at, row-at, rows-of};
+ghost use Rattle.packing.specs.View.{rows-of};
 ghost use Rattle.records.specs.Record.{low-first, to-rows, trailer, record-with, record-length};
 ghost use Rattle.writing.specs.Placed.{placed, group-text};
+ghost use Rattle.writing.specs.Planes.{Plane-of, letter-in, row-in};
 
-// The letter of an x bit and twice a z bit.
-const LETTERS: [u8; 4] = [b'I', b'X', b'Z', b'Y'];
-
-fn letter_byte(w: &[u64; 129], i: usize, j: usize) -> u8
-    requires { ⌜ (i < 64) × (j < 64) ⌝ }
-    ensures { λ r. ⌜ r ≡ letter-byte (letter-at (now (w .entry)) i j) ⌝ }
+// The 64 words from `from` on as bytes, one for eight rows and a qubit: that of rows 8r to 8r + 7 and qubit j is byte 64r + j.
+fn plane(w: &[u64; 129], from: usize) -> [u8; 512]
+    requires { ⌜ from + 64 ≤ 129 ⌝ }
+    ensures { λ p. ⌜ Plane-of (now (w .entry)) from p ⌝ }
 {
-    LETTERS[((w[j] >> i) % 2 + 2 * ((w[64 + j] >> i) % 2)) as usize]
+    let mut p = [0u8; 512];
+    let mut t: usize = 0;
+    while t < 512 {
+        p[t] = ((w[from + t % 64] >> (8 * (t / 64))) % 256) as u8;
+        t += 1;
+    }
+    p
+}
+
+fn letter_byte(x: bool, z: bool) -> u8
+    ensures { λ r. ⌜ r ≡ letter-byte (letter x z) ⌝ }
+{
+    if x {
+        if z { b'Y' } else { b'X' }
+    } else {
+        if z { b'Z' } else { b'I' }
+    }
+}
+
+fn letter_in(xs: &[u8; 512], zs: &[u8; 512], i: usize, j: usize) -> u8
+    requires { ⌜ (i < 64) × (j < 64) ⌝ }
+    ensures { λ r. ⌜ r ≡ letter-byte (letter-in (now (xs .entry)) (now (zs .entry)) i j) ⌝ }
+{
+    let at = 64 * (i / 8) + j;
+    let bit = 1u8 << (i % 8);
+    letter_byte(xs[at] & bit == bit, zs[at] & bit == bit)
 }
 
 fn sign_byte(signs: u64, i: usize) -> u8
@@ -28,15 +54,23 @@ fn sign_byte(signs: u64, i: usize) -> u8
     if (signs >> i) % 2 == 1 { b'-' } else { b'+' }
 }
 
-fn put_row(out: &mut [u8], at: usize, w: &[u64; 129], i: usize, n: usize)
+fn put_row(
+    out: &mut [u8],
+    at: usize,
+    xs: &[u8; 512],
+    zs: &[u8; 512],
+    signs: u64,
+    i: usize,
+    n: usize,
+)
     requires { ⌜ (i < 64) × (n ≤ 64) × (at + (n + 1) ≤ length (now out)) ⌝ }
-    ensures { λ _. ⌜ now (out .exit) ≡ placed (now (out .entry)) at (row-text n (row-at n (now (w .entry)) i)) ⌝ }
+    ensures { λ _. ⌜ now (out .exit) ≡ placed (now (out .entry)) at (row-text n (row-in (now (xs .entry)) (now (zs .entry)) signs i)) ⌝ }
 {
-    out[at] = sign_byte(w[128], i);
+    out[at] = sign_byte(signs, i);
     let first = at + 1;
     let mut j = 0;
     while j < n {
-        out[first + j] = letter_byte(w, i, j);
+        out[first + j] = letter_in(xs, zs, i, j);
         j += 1;
     }
 }
@@ -45,10 +79,13 @@ fn put_group(out: &mut [u8], at: usize, w: &[u64; 129], n: usize)
     requires { ⌜ (n ≤ 64) × (at + n * (n + 1) ≤ length (now out)) ⌝ }
     ensures { λ _. ⌜ now (out .exit) ≡ placed (now (out .entry)) at (group-text n (now (w .entry)) n) ⌝ }
 {
+    let xs = plane(w, 0);
+    let zs = plane(w, 64);
+    let signs = w[128];
     let mut next = at;
     let mut i = 0;
     while i < n {
-        put_row(out, next, w, i, n);
+        put_row(out, next, &xs, &zs, signs, i, n);
         next += n + 1;
         i += 1;
     }
