@@ -1,11 +1,12 @@
 -- The word operations of the seven gates. Assumes nothing.
 use mathlib.Core.Path.{_≡_, refl, sym, _∙_, subst}
-use mathlib.Core.Bool.{Bool, _&&_, not}
+use mathlib.Core.Bool.{Bool, true, false, _&&_, cond, not}
 use mathlib.Core.List.{List, [], _∷_}
 use mathlib.Core.Logic.{_≢_}
 use Prim.Native.Nat.{ℕ, _+_, _<_}
 use native.Mathlib.Omega.{arith}
 use lib.Bits.{bitAnd, bitXor}
+use lib.Dec.{eqb}
 use lib.ListN.{getD, set}
 use Rattle.words.specs.Bit.{bit}
 use Rattle.words.proofs.BitLaws.{bit-xor, bit-and}
@@ -16,8 +17,8 @@ use Rattle.clifford.specs.declared.One.the-variants.{H, S, PauliX, PauliY, Paul
 use Rattle.clifford.specs.declared.Two.the-variants.{Cx, Cz}
 use Rattle.clifford.specs.declared.Gate.the-variants.{One as one, Two as two}
 use Rattle.clifford.specs.declared.One.{One}
-use Rattle.clifford.specs.Gates.{new₁, turns₁}
-use Rattle.packing.specs.View.{Words, letter-at}
+use Rattle.clifford.specs.Named.{one-of}
+use Rattle.packing.specs.View.{Words}
 use Rattle.columns.specs.Gated.{Gated}
 use Rattle.columns.proofs.Stores.{same-letter, put, put-other, keep-x, keep-z, keep-both}
 use Rattle.columns.proofs.Gates.{gate-one, gate-two}
@@ -35,23 +36,48 @@ module _ (w : List ℕ) (lw : Words w) (a : ℕ) (la : a < 64) where
   pub h-gate : Gated (one H a) w (set (put w a (z w a) (x w a)) 128 (bitXor (sign w) (bitAnd (x w a) (z w a))))
   h-gate = gate-one H w lw a la _ _ _ (λ i. simp (x-letter, z-letter)) (λ i. simp (bit-xor, bit-and, x-letter, z-letter))
 
-  pub s-gate : Gated (one S a) w (set (set w (64 + a) (bitXor (z w a) (x w a))) 128 (bitXor (sign w) (bitAnd (x w a) (z w a))))
-  s-gate =
-      rw keep-x
-      (gate-one S w lw a la _ _ _ (λ i. simp (bit-xor, x-letter, z-letter)) (λ i. simp (bit-xor, bit-and, x-letter, z-letter)))
+  s-put : Gated (one S a) w (set (put w a (x w a) (bitXor (z w a) (x w a))) 128 (bitXor (sign w) (bitAnd (x w a) (z w a))))
+  s-put = gate-one S w lw a la _ _ _ (λ i. simp (bit-xor, x-letter, z-letter)) (λ i. simp (bit-xor, bit-and, x-letter, z-letter))
 
-  -- a gate that changes signs alone
-  turning : (g : One) (s : ℕ) → ((i : ℕ) → letter-at w i a ≡ new₁ g (letter-at w i a)) → ((i : ℕ) → bit i s ≡ bit i (sign w) ⊕ turns₁ g (letter-at w i a)) → Gated (one g a) w (set w 128 s)
-  turning g s l e = subst (λ (v : List ℕ). Gated (one g a) w (set v 128 s)) (sym (keep-both w a)) (gate-one g w lw a la _ _ _ l e)
+  pub s-gate : Gated (one S a) w (set (set w (64 + a) (bitXor (z w a) (x w a))) 128 (bitXor (sign w) (bitAnd (x w a) (z w a))))
+  s-gate = rw keep-x s-put
+
+  -- three that change signs alone
+  x-put : Gated (one PauliX a) w (set (put w a (x w a) (z w a)) 128 (bitXor (sign w) (z w a)))
+  x-put = gate-one PauliX w lw a la _ _ _ (λ i. refl) (λ i. simp (bit-xor, z-letter))
+
+  y-put : Gated (one PauliY a) w (set (put w a (x w a) (z w a)) 128 (bitXor (sign w) (bitXor (x w a) (z w a))))
+  y-put = gate-one PauliY w lw a la _ _ _ (λ i. refl) (λ i. simp (bit-xor, x-letter, z-letter))
+
+  z-put : Gated (one PauliZ a) w (set (put w a (x w a) (z w a)) 128 (bitXor (sign w) (x w a)))
+  z-put = gate-one PauliZ w lw a la _ _ _ (λ i. refl) (λ i. simp (bit-xor, x-letter))
+
+  turning : (g : One) (s : ℕ) → Gated (one g a) w (set (put w a (x w a) (z w a)) 128 s) → Gated (one g a) w (set w 128 s)
+  turning g s = subst (λ (v : List ℕ). Gated (one g a) w (set v 128 s)) (sym (keep-both w a))
 
   pub x-gate : Gated (one PauliX a) w (set w 128 (bitXor (sign w) (z w a)))
-  x-gate = turning PauliX _ (λ i. refl) (λ i. simp (bit-xor, z-letter))
+  x-gate = turning PauliX _ x-put
 
   pub y-gate : Gated (one PauliY a) w (set w 128 (bitXor (sign w) (bitXor (x w a) (z w a))))
-  y-gate = turning PauliY _ (λ i. refl) (λ i. simp (bit-xor, x-letter, z-letter))
+  y-gate = turning PauliY _ y-put
 
   pub z-gate : Gated (one PauliZ a) w (set w 128 (bitXor (sign w) (x w a)))
-  z-gate = turning PauliZ _ (λ i. refl) (λ i. simp (bit-xor, x-letter))
+  z-gate = turning PauliZ _ z-put
+
+  -- all five, by which of them it is
+  chosen : (h s p y : Bool) → Gated (one (cond h H (cond s S (cond p PauliX (cond y PauliY PauliZ)))) a) w
+      (set (put w a (cond h (z w a) (x w a)) (cond h (x w a) (cond s (bitXor (z w a) (x w a)) (z w a)))) 128
+      (bitXor (sign w) (cond h (bitAnd (x w a) (z w a)) (cond s (bitAnd (x w a) (z w a)) (cond p (z w a) (cond y (bitXor (x w a) (z w a)) (x w a)))))))
+  chosen true s p y = h-gate
+  chosen false true p y = s-put
+  chosen false false true y = x-put
+  chosen false false false true = y-put
+  chosen false false false false = z-put
+
+  pub one-gate : (c : ℕ) → Gated (one (one-of c) a) w
+      (set (put w a (cond (eqb c 72) (z w a) (x w a)) (cond (eqb c 72) (x w a) (cond (eqb c 83) (bitXor (z w a) (x w a)) (z w a)))) 128
+      (bitXor (sign w) (cond (eqb c 72) (bitAnd (x w a) (z w a)) (cond (eqb c 83) (bitAnd (x w a) (z w a)) (cond (eqb c 88) (z w a) (cond (eqb c 89) (bitXor (x w a) (z w a)) (x w a)))))))
+  one-gate c = chosen (eqb c 72) (eqb c 83) (eqb c 88) (eqb c 89)
 
 -- CX's sign, and CZ's
 and-not : (s a b d : Bool) → s ⊕ ((a && b) ⊕ ((a && b) && d)) ≡ s ⊕ (a && b && not d)

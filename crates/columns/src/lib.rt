@@ -1,8 +1,10 @@
 // Groups of 64 rows, packed by columns in one lent array: bit i of word j is the x bit of row i on qubit j, bit i of word 64 + j
 // its z bit, bit i of word 128 its sign. A gate is then a handful of word operations on the columns of its qubits, for all rows at once.
+ghost use mathlib.Core.Bool.{cond};
 ghost use mathlib.Core.Path.{_≡_};
 ghost use Prim.Native.Nat.{ℕ, _<_, _≤_};
 ghost use Rattle.clifford.specs.Gates.{Fits};
+ghost use Rattle.clifford.specs.Named.{one-of};
 ghost use Rattle.answers.specs.First.{lowest};
 ghost use Rattle.clifford.specs.Measurement.{has-x};
 ghost use Rattle.packing.specs.View.{Words, group-rows};
@@ -95,6 +97,29 @@ pub fn cz(w: &mut [u64; 129], a: usize, b: usize)
     w[64 + a] = za ^ xb;
     w[64 + b] = zb ^ xa;
     w[128] = sign ^ (both & differs);
+}
+
+// The word b, or else c.
+fn pick(on: bool, b: u64, c: u64) -> u64
+    ensures { λ r. ⌜ r ≡ cond on b c ⌝ }
+{
+    if on { b } else { c }
+}
+
+// The gate on one qubit that has this letter. Which it is decides no jump of the processor's, as that of `gate` does.
+pub fn one(w: &mut [u64; 129], letter: usize, a: usize)
+    requires { ⌜ Words (now w) × (a < 64) ⌝ }
+    ensures { λ _. ⌜ Gated (Gate.One (one-of letter) a) (now (w .entry)) (now (w .exit)) ⌝ }
+{
+    let x = w[a];
+    let z = w[64 + a];
+    let sign = w[128];
+    let pauli = pick(letter == 88, z, pick(letter == 89, x ^ z, x));
+    let turns = pick(letter == 72, x & z, pick(letter == 83, x & z, pauli));
+    let added = pick(letter == 83, z ^ x, z);
+    w[a] = pick(letter == 72, z, x);
+    w[64 + a] = pick(letter == 72, x, added);
+    w[128] = sign ^ turns;
 }
 
 pub fn gate(w: &mut [u64; 129], g: Gate)
