@@ -56,7 +56,7 @@ passed-after :
 unfolding after-line
 passed-after n room line op rest e = rw e
 
-then-then : {A B C : Type 0} (v : Verdict A) (f : A → Verdict B) (g : B → Verdict C) → then (then v f) g ≡ then v (λ a. then (f a) g)
+pub then-then : {A B C : Type 0} (v : Verdict A) (f : A → Verdict B) (g : B → Verdict C) → then (then v f) g ≡ then v (λ a. then (f a) g)
 then-then (accepted a) f g = refl
 then-then (refused m p) f g = refl
 

@@ -6,3 +6,6 @@ pub mod Walk
 pub mod Counting
 pub mod Meant
 pub mod OneAnswer
+pub mod Codes
+pub mod Bounds
+pub mod Usual

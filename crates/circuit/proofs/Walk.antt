@@ -45,7 +45,7 @@ and-right true b e = e
 and-right false b e = cc
 
 -- 4 and 5 leave valid operations
-valid-op : (n : ℕ) (op : Op) → all-below n op ≡ true → apart op ≡ true → Valid n op
+pub valid-op : (n : ℕ) (op : Op) → all-below n op ≡ true → apart op ≡ true → Valid n op
 valid-op n (apply (one g a)) b d = ltb-true a n b
 valid-op n (apply (two g a c)) b d =
     (ltb-true a n (and-left (ltb a n) (ltb c n) b), ltb-true c n (and-right (ltb a n) (ltb c n) b), eqb-false a c (not-true (eqb a c) d))
@@ -114,6 +114,12 @@ next-line n zero line s ops a h =
     let q : refused 6 line ≡ accepted ops = sym (operations-zero n line s h) ∙ a in
     absurd (let z : _≡_ {A = ℕ} 0 1 = cc in omega arith)
 next-line n (suc room) line s ops a h = read-line n room line s ops (op-line s) h refl a
+
+-- a line that is allowed is the first of the operations
+pub allowed-line : (n room line : ℕ) (s : List ℕ) (op : Op) (rest : List ℕ) → ends s ≡ false → op-line s ≡ found op rest → all-below n op ≡ true → apart op ≡ true
+    → operations n (suc room) line s ≡ then (operations n room (suc line) rest) (λ ops. accepted (op ∷ ops))
+unfolding after-line
+allowed-line n room line s op rest h e b d = operations-suc n room line s (found op rest) h e ∙ rw (b, d)
 
 -- where the text ends there are no operations more
 pub no-more : (n room line : ℕ) (s : List ℕ) (ops : List Op) → operations n room line s ≡ accepted ops → ends s ≡ true → ops ≡ []

@@ -11,6 +11,8 @@ use Rattle.circuit.specs.declared.Turn.{Turn}
 use Rattle.circuit.specs.declared.Turn.the-variants as turn
 use Rattle.circuit.specs.declared.Counted.{Counted}
 use Rattle.circuit.specs.declared.Counted.the-variants as counted
+use Rattle.circuit.specs.declared.Heading.{Heading}
+use Rattle.circuit.specs.declared.Heading.the-variants as heading
 use Rattle.circuit.specs.declared.Scanned.{Scanned}
 use Rattle.circuit.specs.declared.Scanned.the-variants as scanned
 use Rattle.circuit.specs.declared.Checked.{Checked}
@@ -55,6 +57,16 @@ counts ops = record { operations = length ops; measured = count-measured ops }
 abbrev pub told-lines : Counted → Verdict Counts
 told-lines (counted.Lines operations measured) = accepted (record { operations = operations; measured = measured })
 told-lines (counted.Refused r) = refused (numberOf r) (placeOf r)
+
+-- line 1 is read, and its number of qubits is allowed
+pub record Headed (s : List ℕ) (n body : ℕ) : Type 0 where
+  pub stands : Stands header s 0 n body
+  pub some-qubits : 1 ≤ n
+  pub few-qubits : n ≤ 64
+
+abbrev pub Heads : List ℕ → Heading → Type 0
+Heads s (heading.Qubits n body) = Headed s n body
+Heads s (heading.Refused r) = meaning s ≡ refused (numberOf r) (placeOf r)
 
 -- the text means this circuit, and its operation lines begin at body
 pub record Accepts (s : List ℕ) (n count measured body : ℕ) : Type 0 where

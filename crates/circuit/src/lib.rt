@@ -1,11 +1,13 @@
 // Reads a circuit text: one operation line at a position, which the check, the run and the patch share; one pass over a whole text; and the check.
 ghost use mathlib.Core.Path.{_≡_};
 ghost use mathlib.Core.List.{[], _∷_};
+ghost use Prim.Native.Nat.{_≤_};
 ghost use lib.ListN.{drop};
 ghost use Rattle.circuit.specs.Lines.{closed-by, end-byte};
 ghost use Rattle.answers.specs.Verdict.{accepted, then};
 ghost use Rattle.circuit.specs.Text.{header, all-below, apart, operations, most-operations};
-ghost use Rattle.circuit.specs.Promises.{measures, counts, TurnAt, told-lines, Scans, told-check, check-of};
+ghost use Rattle.circuit.specs.Promises.{measures, counts, TurnAt, told-lines, Heads, Scans, told-check, check-of};
+ghost use Rattle.circuit.specs.Coded.{OpAt};
 ghost use Rattle.circuit.specs.Reading.{NumberAt, NameAt, Reads, pair-line, LineAt};
 use answers::Refusal;
 use clifford::Gate;
@@ -14,7 +16,9 @@ use clifford::Op;
 use clifford::Two;
 use numbers::Number;
 
+mod coded;
 mod numbers;
+mod short;
 
 // An operation with the position behind its line.
 pub enum Line {
@@ -149,6 +153,18 @@ pub fn qubits_apart(op: Op) -> bool
     }
 }
 
+// The operation of the line and the line's length as one number, if the line is well formed and the operation allowed.
+pub fn op_at(s: &[u8], at: usize, n: usize) -> usize
+    requires { ⌜ n ≤ 64 ⌝ }
+    ensures { λ r. ⌜ OpAt (now (s .entry)) at n r ⌝ }
+{
+    let usual = short::line_at(s, at, n);
+    if 0 < usual {
+        return usual;
+    }
+    coded::line_at(s, at, n)
+}
+
 fn one_if_measure(op: Op) -> usize
     ensures { λ r. ⌜ r ≡ measures op ⌝ }
 {
@@ -158,7 +174,7 @@ fn one_if_measure(op: Op) -> usize
     }
 }
 
-fn turn_at(s: &[u8], at: usize, n: usize, line: usize) -> Turn
+fn judged_at(s: &[u8], at: usize, n: usize, line: usize) -> Turn
     ensures { λ r. ⌜ TurnAt (now (s .entry)) at n line r ⌝ }
 {
     match line_at(s, at) {
@@ -177,7 +193,19 @@ fn turn_at(s: &[u8], at: usize, n: usize, line: usize) -> Turn
     }
 }
 
+fn turn_at(s: &[u8], at: usize, n: usize, line: usize) -> Turn
+    requires { ⌜ n ≤ 64 ⌝ }
+    ensures { λ r. ⌜ TurnAt (now (s .entry)) at n line r ⌝ }
+{
+    let usual = short::line_at(s, at, n);
+    if 0 < usual {
+        return Turn::Next(at + usual / 16777216, coded::one_if_measure(usual));
+    }
+    judged_at(s, at, n, line)
+}
+
 fn scan_lines(s: &[u8], body: usize, n: usize) -> Counted
+    requires { ⌜ n ≤ 64 ⌝ }
     ensures { λ r. ⌜ told-lines r ≡ then (operations n most-operations 2 (drop body (now (s .entry)))) (λ ops. accepted (counts ops)) ⌝ }
 {
     let mut at = body;
@@ -220,28 +248,43 @@ fn header_at(s: &[u8]) -> Number
     }
 }
 
-pub fn scan(text: &[u8]) -> Scanned
-    ensures { λ r. ⌜ Scans (now (text .entry)) r ⌝ }
+// Line 1: the number of qubits, and where the operation lines begin; or why the text is refused.
+pub enum Heading {
+    Qubits(usize, usize),
+    Refused(Refusal),
+}
+
+pub fn head(text: &[u8]) -> Heading
+    ensures { λ r. ⌜ Heads (now (text .entry)) r ⌝ }
 {
     match header_at(text) {
         Number::Is(n, body) => {
             if n < 1 {
-                return Scanned::Refused(Refusal::QubitCount);
+                return Heading::Refused(Refusal::QubitCount);
             }
             if 64 < n {
-                return Scanned::Refused(Refusal::QubitCount);
+                return Heading::Refused(Refusal::QubitCount);
             }
-            match scan_lines(text, body, n) {
-                Counted::Lines(count, measured) => Scanned::Circuit {
-                    qubits: n,
-                    operations: count,
-                    measured,
-                    body,
-                },
-                Counted::Refused(r) => Scanned::Refused(r),
-            }
+            Heading::Qubits(n, body)
         }
-        Number::Malformed => Scanned::Refused(Refusal::NotQubits),
+        Number::Malformed => Heading::Refused(Refusal::NotQubits),
+    }
+}
+
+pub fn scan(text: &[u8]) -> Scanned
+    ensures { λ r. ⌜ Scans (now (text .entry)) r ⌝ }
+{
+    match head(text) {
+        Heading::Qubits(n, body) => match scan_lines(text, body, n) {
+            Counted::Lines(count, measured) => Scanned::Circuit {
+                qubits: n,
+                operations: count,
+                measured,
+                body,
+            },
+            Counted::Refused(r) => Scanned::Refused(r),
+        },
+        Heading::Refused(r) => Scanned::Refused(r),
     }
 }
 

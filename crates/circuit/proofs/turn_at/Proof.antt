@@ -1,8 +1,6 @@
 -- `circuit::turn_at` meets its contract. Assumes nothing.
-use mathlib.Core.Path.{sym, _∙_}
-use denote.Ref.{now}
-use Rattle.circuit.proofs.Walk.{and-left, and-right}
-use Rattle.circuit.proofs.Counting.{refused-four, refused-five, refused-three, passes, then-apart-not}
+use native.Mathlib.Omega.{arith}
+use Rattle.circuit.proofs.Counting.{passes}
 use borrow.Author.Needs.{needs}
 use Rattle.circuit.proofs.turn_at.Statement.{statement}
 use Rattle.circuit.proofs.turn_at.Tie as tie
@@ -10,55 +8,25 @@ use Rattle.circuit.proofs.turn_at.Tie as tie
 line-at-requires : tie.Need-line-at-requires
 line-at-requires c κs = search needs
 
-enum-known-op : tie.Need-enum-known-op
-enum-known-op c = search needs
-
-qubits-below-requires : tie.Need-qubits-below-requires
-qubits-below-requires c κs = search needs
-
-qubits-apart-requires : tie.Need-qubits-apart-requires
-qubits-apart-requires c κs = search needs
+add-t8 : tie.Need-add-t8
+add-t8 c = omega (arith, c .before .line-at .ensures (c .if1 .taken) .stands .within)
 
 one-if-measure-requires : tie.Need-one-if-measure-requires
 one-if-measure-requires c κs = search needs
 
 returns : tie.Need-returns
 returns c =
-    let a = c .before .before .before .before .before .before .before .before .before .args in
-    passes (now (a .s)) (a .at) (a .n) (a .line) _ _ _ (rw (c .before .before .before .before .before .op .given .1) at (c .before .before .before .before .before .before .before .line-at .ensures))
-    (sym (c .before .before .before .qubits-below .ensures) ∙ and-left _ (c .before .before .qubits-apart .result) (c .before .if1 .taken))
-    (sym (c .before .before .qubits-apart .ensures) ∙ and-right (c .before .before .before .qubits-below .result) _ (c .before .if1 .taken))
-    (c .one-if-measure .ensures)
+    let a = c .before .before .before .before .args in
+    let w = c .before .before .line-at .ensures (c .before .if1 .taken) in
+    passes (a .s .now) (a .at) (a .n) (a .line) _ _ _ (w .stands) (w .below) (w .parted) (c .one-if-measure .ensures)
+
+judged-at-requires : tie.Need-judged-at-requires
+judged-at-requires c κs = search needs
 
 returns-2 : tie.Need-returns-2
-returns-2 c =
-    let a = c .before .before .before .before .before .before .before .before .before .args in
-    refused-five (now (a .s)) (a .at) (a .n) (a .line) _ _ (rw (c .before .before .before .before .before .op .given .1) at (c .before .before .before .before .before .before .before .line-at .ensures)) (sym (c .before .before .before .qubits-below .ensures) ∙ c .if2 .taken) (sym (c .before .before .qubits-apart .ensures) ∙ then-apart-not (c .before .before .before .qubits-below .result) _ (c .if2 .taken) (c .before .if1 .left))
-
-enum-told : tie.Need-enum-told
-enum-told c = search needs
-
-returns-3 : tie.Need-returns-3
-returns-3 c =
-    let a = c .before .before .before .before .before .before .before .before .before .args in
-    refused-four (now (a .s)) (a .at) (a .n) (a .line) _ _ (rw (c .before .before .before .before .before .op .given .1) at (c .before .before .before .before .before .before .before .line-at .ensures)) (sym (c .before .before .before .qubits-below .ensures) ∙ c .if2 .left)
-
-returns-4 : tie.Need-returns-4
-returns-4 c =
-    let a = c .before .before .before .before .args in
-    refused-three (now (a .s)) (a .at) (a .n) (a .line) (rw (c .enum-told .given .1) at (c .before .before .line-at .ensures))
+returns-2 c = search needs
 
 pub turn-at-spec : {M : Type 1} → statement M
 turn-at-spec =
     tie.close
-    (tie.spec
-    line-at-requires
-    enum-known-op
-    qubits-below-requires
-    qubits-apart-requires
-    one-if-measure-requires
-    returns
-    returns-2
-    enum-told
-    returns-3
-    returns-4)
+    (tie.spec line-at-requires add-t8 one-if-measure-requires returns judged-at-requires returns-2)
