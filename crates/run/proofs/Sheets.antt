@@ -13,19 +13,18 @@ use Rattle.answers.specs.Refusals.{numberOf, placeOf}
 use Rattle.clifford.specs.declared.Op.{Op}
 use Rattle.clifford.specs.Tableau.{Rows, start}
 use Rattle.clifford.specs.Run.{State, run}
-use Rattle.circuit.specs.Text.{Circuit, meaning, operations, most-operations}
-use Rattle.circuit.specs.Promises.{count-measured, Accepts}
-use Rattle.circuit.proofs.Meant.{parts}
+use Rattle.circuit.specs.Text.{Circuit, meaning, operations}
+use Rattle.circuit.specs.Lines.{Found, found}
+use Rattle.circuit.specs.Promises.{count-measured, counts, Headed, Accepts}
+use Rattle.circuit.proofs.Meant.{lines-counted, parts}
 use Rattle.packing.specs.View.{rows-of}
 use Rattle.tableau.specs.declared.Tableau.{Tableau}
 use Rattle.tableau.specs.View.{rows}
 use Rattle.records.specs.Record.{mark, record-with, record-of, record-length}
 use Rattle.records.proofs.Lengths.{length-record}
 use Rattle.tally.specs.declared.Tally.{Tally}
-use Rattle.run.specs.declared.Ran.{Ran}
-use Rattle.run.specs.declared.Ran.the-variants as ran
 use Rattle.run.specs.Run.{Sheet, begin, sheet, run-circuit, run-of, numbers, rest-of, buffer-after, Runs}
-use Rattle.run.specs.Walk.{View, lines-of, or-none, Ended, Walkable, Playable, Played, PlayAs, Sheeted, RanAs}
+use Rattle.run.specs.Walk.{View, lines-of, or-none, Ended, Stuck, judgement, Sheeted}
 use Rattle.run.proofs.Counting.{run-count, measures-one}
 
 pub start-rows : (t : Tableau) (n : ℕ) → t .n ≡ n → rows t ≡ start n → start n ≡ rows-of n (t .destabilizers) (t .stabilizers)
@@ -49,11 +48,17 @@ ended-within text body n coins d s marks t e = omega (arith, ended-room text bod
 pub ended-few : (text : List ℕ) (body n : ℕ) (coins d s marks : List ℕ) (t : Tally) → Ended text body n coins d s marks t → length (take (t .measured) marks) ≤ 4096
 ended-few text body n coins d s marks t e = omega (arith, ended-room text body n coins d s marks t e, ended-within text body n coins d s marks t e, e .view .room)
 
-pub ended-fits : (text : List ℕ) (body n : ℕ) (coins d s marks : List ℕ) (t : Tally) (old : List ℕ) → Ended text body n coins d s marks t → Playable text body n old
-    → record-length n (length (take (t .measured) marks)) ≤ length old
-ended-fits text body n coins d s marks t old e p = rw (ended-room text body n coins d s marks t e, ended-count text body n coins d s marks t e) (p .room)
+-- the circuit was run to its end, and its record written
+pub record Played (text : List ℕ) (body n : ℕ) (coins old : List ℕ) (size : ℕ) (t : Tally) (new : List ℕ) : Type 0 where
+  pub state : State
+  pub is : run n 2 (lines-of n body text) (begin n coins) ≡ accepted state
+  pub size-is : size ≡ length (sheet n state .bytes)
+  pub tally-is : t ≡ sheet n state .tally
+  pub rest-is : state .coins ≡ drop (t .taken) coins
+  pub enough : t .taken ≤ length coins
+  pub buffer : new ≡ over (sheet n state .bytes) old
 
-pub ended-played : (text : List ℕ) (body n : ℕ) (coins d s marks : List ℕ) (t : Tally) (old : List ℕ) (size : ℕ) (new : List ℕ) → Ended text body n coins d s marks t
+ended-played : (text : List ℕ) (body n : ℕ) (coins d s marks : List ℕ) (t : Tally) (old : List ℕ) (size : ℕ) (new : List ℕ) → Ended text body n coins d s marks t
     → size ≡ record-length n (length (take (t .measured) marks)) → new ≡ over (record-with n (take (t .measured) marks) (rows-of n d s)) old
     → Played text body n coins old size t new
 ended-played text body n coins d s marks t old size new e z b =
@@ -73,23 +78,13 @@ module _ (text coins old : List ℕ) (n count measured body : ℕ) (a : Accepts 
   lines-are : lines-of n body text ≡ a .circuit .ops
   lines-are = ap or-none (a .lines)
 
-  pub may-play : record-length n measured ≤ length old → Playable text body n old
-  may-play h =
-      let p = parts text (a .circuit) (a .meant) in
-      record {
-        some-qubits = omega (arith, p .some-qubits, a .qubits-is);
-        few-qubits = omega (arith, p .few-qubits, a .qubits-is);
-        lines = a .lines ∙ ap accepted (sym lines-are);
-        room = (let u : count-measured (lines-of n body text) ≡ measured = ap count-measured lines-are ∙ sym (a .measured-is) in rw u h);
-      }
-
   met : run-of text coins (length old) ≡ unless (leb (record-length n measured) (length old)) 8 0 (run-circuit (a .circuit) coins)
   unfolding run-of
   met =
       ap (λ (v : Verdict Circuit). then v (λ c. unless (leb (record-length (c .qubits) (count-measured (c .ops))) (length old)) 8 0 (run-circuit c coins))) (a .meant)
       ∙ ap₂ (λ (m k : ℕ). unless (leb (record-length m k) (length old)) 8 0 (run-circuit (a .circuit) coins)) (sym (a .qubits-is)) (sym (a .measured-is))
 
-  pub no-room : length old < record-length n measured → run-of text coins (length old) ≡ refused 8 0
+  no-room : length old < record-length n measured → run-of text coins (length old) ≡ refused 8 0
   no-room h = met ∙ ap (λ (b : Bool). unless b 8 0 (run-circuit (a .circuit) coins)) (lt-leb (record-length n measured) (length old) h)
 
   played : record-length n measured ≤ length old → (v : Verdict State) → run n 2 (lines-of n body text) (begin n coins) ≡ v
@@ -100,8 +95,8 @@ module _ (text coins old : List ℕ) (n count measured body : ℕ) (a : Accepts 
       ∙ ap₂ (λ (m : ℕ) (ops : List Op). then (run m 2 ops (begin m coins)) (λ e. accepted (sheet m e))) (sym (a .qubits-is)) (sym lines-are)
       ∙ ap (λ (w : Verdict State). then w (λ e. accepted (sheet n e))) e
 
-  pub ran-as : record-length n measured ≤ length old → (r : Ran) (new : List ℕ) → PlayAs text body n coins old r new → RanAs text coins old r new
-  ran-as h (ran.Sheet size t) new p = record {
+  sheeted : record-length n measured ≤ length old → (size : ℕ) (t : Tally) (new : List ℕ) → Played text body n coins old size t new → Sheeted text coins old size t new
+  sheeted h size t new p = record {
     sheet = sheet n (p .state);
     is = played h (accepted (p .state)) (p .is);
     size-is = p .size-is;
@@ -110,7 +105,68 @@ module _ (text coins old : List ℕ) (n count measured body : ℕ) (a : Accepts 
     enough = p .enough;
     buffer = p .buffer;
   }
-  ran-as h (ran.Refused r) new p = (played h (refused (numberOf r) (placeOf r)) (p .0), p .1)
+
+-- where no coin is found
+module _ (text : List ℕ) (n count measured body : ℕ) (a : Accepts text n count measured body) where
+  judged-met : (line room : ℕ) → judgement text line room ≡ unless (leb (record-length n measured) room) 8 0 (refused 7 line)
+  unfolding judgement
+  judged-met line room =
+      ap (λ (v : Verdict Circuit). then v (λ c. unless (leb (record-length (c .qubits) (count-measured (c .ops))) room) 8 0 (refused 7 line))) (a .meant)
+      ∙ ap₂ (λ (m k : ℕ). unless (leb (record-length m k) room) 8 0 (refused 7 line)) (sym (a .qubits-is)) (sym (a .measured-is))
+
+  pub judged-room : (line room : ℕ) → room < record-length n measured → judgement text line room ≡ refused 8 0
+  judged-room line room h = judged-met line room ∙ ap (λ (b : Bool). unless b 8 0 (refused 7 line)) (lt-leb (record-length n measured) room h)
+
+  pub judged-coin : (line room : ℕ) → record-length n measured ≤ room → judgement text line room ≡ refused 7 line
+  judged-coin line room h = judged-met line room ∙ ap (λ (b : Bool). unless b 8 0 (refused 7 line)) (le-leb (record-length n measured) room h)
+
+-- the walk came to the end of a text with this line 1
+module _ (text : List ℕ) (body n : ℕ) (coins d s marks : List ℕ) (t : Tally) (h : Headed text n body) (e : Ended text body n coins d s marks t) where
+  accepts : Accepts text n (length (lines-of n body text)) (t .measured) body
+  accepts =
+      let k : t .measured ≡ count-measured (lines-of n body text) = ended-count text body n coins d s marks t e in
+      lines-counted text n body (h .stands) (length (lines-of n body text)) (t .measured) (h .some-qubits) (h .few-qubits)
+      (rw k (sym (ap (λ (v : Verdict (List Op)). then v (λ ops. accepted (counts ops))) (e .lines))))
+
+  pub ended-size : (n ≤ 64) × (t .measured ≤ 4096)
+  ended-size = (h .few-qubits, omega (arith, ended-within text body n coins d s marks t e, e .view .room))
+
+  pub ended-no-room : (old : List ℕ) → length old < record-length n (t .measured) → run-of text coins (length old) ≡ refused 8 0
+  ended-no-room old l = no-room text coins old n (length (lines-of n body text)) (t .measured) body accepts l
+
+  pub ended-sheeted : (old : List ℕ) (size : ℕ) (new : List ℕ) → record-length n (t .measured) ≤ length old → size ≡ record-length n (length (take (t .measured) marks))
+      → new ≡ over (record-with n (take (t .measured) marks) (rows-of n d s)) old → Sheeted text coins old size t new
+  ended-sheeted old size new l z b =
+      sheeted text coins old n (length (lines-of n body text)) (t .measured) body accepts l size t new (ended-played text body n coins d s marks t old size new e z b)
+
+-- it stopped before
+stuck-circuit : (text coins : List ℕ) (n body line : ℕ) → Headed text n body → Stuck text body n coins line → (c : Circuit) → meaning text ≡ accepted c → run-circuit c coins ≡ refused 7 line
+unfolding run-circuit
+stuck-circuit text coins n body line h k c m =
+    let p = parts text c m in
+    let e : _≡_ {A = Found ℕ} (found n (drop body text)) (found (c .qubits) (p .rest)) = sym (h .stands .reads) ∙ p .header-is in
+    let q : n ≡ c .qubits = cc in
+    let r : drop body text ≡ p .rest = cc in
+    let l : operations n 4096 2 (drop body text) ≡ accepted (c .ops) = rw (q, r) (p .lines) in
+    let o : lines-of n body text ≡ c .ops = ap or-none l in
+    let s : run n 2 (lines-of n body text) (begin n coins) ≡ refused 7 line = k (l ∙ ap accepted (sym o)) in
+    ap₂ (λ (m : ℕ) (ops : List Op). then (run m 2 ops (begin m coins)) (λ e. accepted (sheet m e))) (sym q) (sym o)
+    ∙ ap (λ (v : Verdict State). then v (λ e. accepted (sheet n e))) s
+
+pub stuck-run : (text coins : List ℕ) (n body line room a p : ℕ) → Headed text n body → Stuck text body n coins line → judgement text line room ≡ refused a p → run-of text coins room ≡ refused a p
+unfolding run-of judgement
+stuck-run text coins n body line room a p h k j = go (meaning text) (stuck-circuit text coins n body line h k) ∙ j
+  where
+    go : (v : Verdict Circuit) → ((c : Circuit) → v ≡ accepted c → run-circuit c coins ≡ refused 7 line)
+        → then v (λ c. unless (leb (record-length (c .qubits) (count-measured (c .ops))) room) 8 0 (run-circuit c coins))
+        ≡ then v (λ c. unless (leb (record-length (c .qubits) (count-measured (c .ops))) room) 8 0 (refused 7 line))
+    go (accepted c) f = ap (unless (leb (record-length (c .qubits) (count-measured (c .ops))) room) 8 0) (f c refl)
+    go (refused m q) f = refl
+
+pub judged-refused : (text : List ℕ) (line room number place : ℕ) → meaning text ≡ refused number place → judgement text line room ≡ refused number place
+unfolding judgement
+judged-refused text line room number place e =
+    ap (λ (v : Verdict Circuit). then v (λ c. unless (leb (record-length (c .qubits) (count-measured (c .ops))) room) 8 0 (refused 7 line))) e
 
 pub not-read : (text coins old : List ℕ) (number place : ℕ) → meaning text ≡ refused number place → run-of text coins (length old) ≡ refused number place
 unfolding run-of

@@ -25,9 +25,12 @@ use Rattle.tally.specs.Tally.{none-yet, one-if, stepped, tallied}
 use Rattle.run.specs.Run.{begin}
 use Rattle.circuit.specs.Lines.{op-line}
 use Rattle.circuit.specs.Reading.{Stands}
+use Rattle.circuit.specs.Text.{all-below}
+use Rattle.circuit.specs.Coded.{op-in, length-in, Allowed}
+use Rattle.circuit.proofs.Codes.{allowed-valid}
 use Rattle.run.specs.declared.Step.{Step}
 use Rattle.run.specs.declared.Step.the-variants as steps
-use Rattle.run.specs.Walk.{Fixed, Random, Dry, View, Went, MeasureAs, StepAs}
+use Rattle.run.specs.Walk.{Fixed, Random, Dry, View, Went, Goes, MeasureAs, Applies, StepAs}
 use Rattle.tally.proofs.Tallies.{tallied-more}
 
 pub view-begin : (n : ℕ) (coins d s marks : List ℕ) → Words d → Words s → length marks ≡ 4096 → start n ≡ rows-of n d s → View n coins (begin n coins) d s marks none-yet
@@ -107,7 +110,18 @@ module _ (n : ℕ) (coins : List ℕ) (e : State) (d s marks : List ℕ) (t : Ta
 
 -- a line that measures
 pub measured-step : (text : List ℕ) (at n a : ℕ) (coins d s marks : List ℕ) (t : Tally) (next : ℕ) (r : Step) (d′ s′ marks′ : List ℕ) → Stands op-line text at (measure a) next
-    → MeasureAs n a coins d s marks t next r d′ s′ marks′ → StepAs text at n coins d s marks t r d′ s′ marks′
-measured-step text at n a coins d s marks t next (steps.Next behind u) d′ s′ marks′ k m = record { op = measure a; stands = rw (m .0) k; goes = m .1 }
-measured-step text at n a coins d s marks t next steps.NoCoin d′ s′ marks′ k m = record { op = measure a; next = next; stands = k; stops = m }
-measured-step text at n a coins d s marks t next steps.Malformed d′ s′ marks′ k m = absurd m
+    → all-below n (measure a) ≡ true → MeasureAs n a coins d s marks t next r d′ s′ marks′ → StepAs text at n coins d s marks t r d′ s′ marks′
+measured-step text at n a coins d s marks t next (steps.Next behind u) d′ s′ marks′ k b m = record { op = measure a; stands = rw (m .0) k; below = b; parted = refl; goes = m .1 }
+measured-step text at n a coins d s marks t next steps.NoCoin d′ s′ marks′ k b m = record { op = measure a; next = next; stands = k; stops = m }
+measured-step text at n a coins d s marks t next steps.Refused d′ s′ marks′ k b m = absurd m
+
+-- a line with a gate, by its number
+pub applied-step : (text : List ℕ) (at n code next : ℕ) (coins d s marks : List ℕ) (t : Tally) (d′ s′ : List ℕ) → n ≤ 64 → Allowed text at n code → next ≡ at + length-in code
+    → Applies code d s d′ s′ → Goes text at n coins d s marks t next d′ s′ marks t
+applied-step text at n code next coins d s marks t d′ s′ h w e p = record {
+  op = op-in code;
+  stands = rw e (w .stands);
+  below = w .below;
+  parted = w .parted;
+  goes = λ line state v. rw (p .is) (went-gate n coins state d s marks t v line (p .gate) d′ s′ h (rw (p .is) at (allowed-valid text at n code w)) (p .d-gated) (p .s-gated));
+}

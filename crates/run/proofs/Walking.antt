@@ -1,58 +1,66 @@
--- The walk over the lines of an accepted text: what holds at each line, and how it ends. Assumes nothing.
+-- The walk over the lines of a text: what holds at each line, and how it ends. Assumes nothing.
 use mathlib.Core.Path.{_≡_, refl, sym, _∙_, ap}
-use mathlib.Core.List.{List, [], _∷_}
-use Prim.Native.Nat.{ℕ, suc, _+_, _≤_, _<_}
+use mathlib.Core.Bool.{true}
+use mathlib.Core.List.{List, [], _∷_, _++_}
+use Prim.Native.Nat.{ℕ, suc, _+_, _-_, _≤_, _<_}
 use native.Mathlib.Numerals.{add-one}
 use native.Mathlib.Omega.{arith}
 use lib.ListN.{length, drop}
 use Rattle.answers.specs.Verdict.{Verdict, accepted, refused, then}
 use Rattle.clifford.specs.declared.Op.{Op}
-use Rattle.clifford.specs.Run.{State, step, run, Valid}
-use Rattle.circuit.specs.Lines.{op-line, malformed}
+use Rattle.clifford.specs.Run.{State, step, run}
+use Rattle.circuit.specs.Lines.{op-line}
 use Rattle.circuit.specs.Reading.{Stands}
 use Rattle.circuit.specs.Text.{operations, most-operations}
-use Rattle.circuit.proofs.Positions.{front}
-use Rattle.circuit.proofs.Walk.{next-line, next-at, never-malformed, none-left, within-room}
+use Rattle.circuit.proofs.Positions.{front, past}
+use Rattle.circuit.proofs.Counting.{then-then}
+use Rattle.circuit.proofs.Walk.{then-accepted, allowed-line, operations-end, next-line, next-at}
 use Rattle.tally.specs.declared.Tally.{Tally}
 use Rattle.run.specs.Run.{begin}
 use Rattle.tally.specs.Tally.{none-yet}
-use Rattle.run.specs.Walk.{View, Went, Goes, Stops, Room, lines-of, Ended, Walkable}
+use Rattle.run.specs.Walk.{View, Went, Goes, Stops, Room, lines-of, or-none, Ended, Stuck, Walkable}
 use Rattle.tally.proofs.Tallies.{Tied, tally-tied, randoms, randoms-within}
 use Rattle.run.proofs.Counting.{step-count, measures-one}
 use Rattle.run.proofs.Views.{view-begin}
 
+-- the operations done so far, the state they led to, and that what the text is worth depends on the lines from here on
 pub record Walking (text : List ℕ) (body n : ℕ) (coins d s marks : List ℕ) (t : Tally) (at line : ℕ) : Type 0 where
   pub state : State
-  pub ops : List Op
+  pub done : List Op
   pub room : ℕ
-  pub left : operations n room line (drop at text) ≡ accepted ops
-  pub so-far : run n 2 (lines-of n body text) (begin n coins) ≡ run n line ops state
+  pub left : operations n most-operations 2 (drop body text) ≡ then (operations n room line (drop at text)) (λ ops. accepted (done ++ ops))
+  pub so-far : (ops : List Op) → run n 2 (done ++ ops) (begin n coins) ≡ run n line ops state
   pub view : View n coins state d s marks t
-  pub count : t .measured + length ops ≤ 4096
-  pub lines : line + length ops ≤ 4098
+  pub count : t .measured + 2 ≤ line
+  pub lines : line + room ≡ 4098
+
+then-none : {A : Type 0} (v : Verdict A) → v ≡ then v (λ a. accepted a)
+then-none (accepted a) = refl
+then-none (refused m p) = refl
+
+one-more : (done : List Op) (op : Op) (ops : List Op) → done ++ (op ∷ ops) ≡ (done ++ (op ∷ [])) ++ ops
+one-more [] op ops = refl
+one-more (o ∷ done) op ops = ap (_∷_ o) (one-more done op ops)
 
 module _ (text : List ℕ) (body n : ℕ) (coins : List ℕ) where
-  pub walk-begin : (d s marks : List ℕ) → Walkable text body n d s marks → Walking text body n coins d s marks none-yet body 2
-  walk-begin d s marks w =
-      let k = within-room n most-operations 2 (drop body text) (lines-of n body text) (w .lines) in
-      record {
-        state = begin n coins;
-        ops = lines-of n body text;
-        room = most-operations;
-        left = w .lines;
-        so-far = refl;
-        view = view-begin n coins d s marks (w .d-words) (w .s-words) (w .room) (w .from-start);
-        count = omega (arith, k);
-        lines = omega (arith, k);
-      }
+  pub walk-begin : (d s marks : List ℕ) → Walkable n d s marks → Walking text body n coins d s marks none-yet body 2
+  walk-begin d s marks w = record {
+    state = begin n coins;
+    done = [];
+    room = most-operations;
+    left = then-none (operations n most-operations 2 (drop body text));
+    so-far = λ ops. refl;
+    view = view-begin n coins d s marks (w .d-words) (w .s-words) (w .room) (w .from-start);
+    count = omega arith;
+    lines = omega arith;
+  }
 
   module _ (d s marks : List ℕ) (t : Tally) (at line : ℕ) (w : Walking text body n coins d s marks t at line) where
     -- the counters have room
-    pub walk-room : n ≤ 64 → at < length text → Room n coins d s marks t
+    pub walk-room : n ≤ 64 → (line ≡ 4098 → ⊥) → Room n coins d s marks t
     walk-room h l =
-        let q = next-line n (w .room) line (drop at text) (w .ops) (w .left) (rw (front text at l)) in
         let m = tally-tied (w .state .outcomes) in
-        let c : t .measured < 4096 = omega (arith, w .count, ap length (q .ops-is)) in
+        let c : t .measured < 4096 = omega (arith, w .count, w .lines) in
         let r : t .random ≡ randoms (w .state .outcomes) = ap (λ (u : Tally). u .random) (w .view .tally-is) ∙ m .random in
         let p : t .taken ≡ randoms (w .state .outcomes) = ap (λ (u : Tally). u .taken) (w .view .tally-is) ∙ m .taken in
         record {
@@ -66,37 +74,69 @@ module _ (text : List ℕ) (body n : ℕ) (coins : List ℕ) where
           enough = w .view .enough;
         }
 
-    pub walk-valid : at < length text → (op : Op) (next : ℕ) → Stands op-line text at op next → Valid n op
-    walk-valid l op next k = next-at n (w .room) line text at (w .ops) (w .left) op next l k .valid
-
     -- one line further
-    pub walk-on : at < length text → (next : ℕ) (d′ s′ marks′ : List ℕ) (t′ : Tally) → Goes text at n coins d s marks t next d′ s′ marks′ t′ → Walking text body n coins d′ s′ marks′ t′ next (line + 1)
-    walk-on l next d′ s′ marks′ t′ g =
-        let q = next-at n (w .room) line text at (w .ops) (w .left) (g .op) next l (g .stands) in
+    pub walk-on : at < length text → (line ≡ 4098 → ⊥) → (next : ℕ) (d′ s′ marks′ : List ℕ) (t′ : Tally) → Goes text at n coins d s marks t next d′ s′ marks′ t′ → Walking text body n coins d′ s′ marks′ t′ next (line + 1)
+    walk-on l f next d′ s′ marks′ t′ g =
         let e = g .goes line (w .state) (w .view) in
-        let u : length (w .ops) ≡ suc (length (q .more)) = ap length (q .ops-is) in
+        let op = g .op in
+        let room = w .room - 1 in
+        let k : w .room ≡ suc room = omega (arith, w .lines) in
+        let later = operations n room (suc line) (drop next text) in
         rw (add-one line) (record {
           state = e .state;
-          ops = q .more;
-          room = q .left;
-          left = q .goes-on;
-          so-far = w .so-far ∙ ap (λ (o : List Op). run n line o (w .state)) (q .ops-is) ∙ ap (λ (v : Verdict State). then v (run n (suc line) (q .more))) (e .is);
+          done = w .done ++ (op ∷ []);
+          room = room;
+          left =
+              w .left
+              ∙ ap (λ (v : Verdict (List Op)). then v (λ ops. accepted (w .done ++ ops)))
+              (ap (λ (i : ℕ). operations n i line (drop at text)) k ∙ allowed-line n room line (drop at text) op (drop next text) (rw (front text at l)) (g .stands .reads) (g .below) (g .parted))
+              ∙ then-then later (λ ops. accepted (op ∷ ops)) (λ ops. accepted (w .done ++ ops))
+              ∙ ap (then later) (λ i ops. accepted (one-more (w .done) op ops i));
+          so-far = λ ops.
+              ap (λ (o : List Op). run n 2 o (begin n coins)) (sym (one-more (w .done) op ops)) ∙ w .so-far (op ∷ ops)
+              ∙ ap (λ (v : Verdict State). then v (run n (suc line) ops)) (e .is);
           view = e .view;
-          count = omega (arith, u, w .count, w .view .count, e .view .count, step-count n line (g .op) (w .state) (e .state) (e .is), measures-one (g .op));
-          lines = omega (arith, u, w .lines);
+          count = omega (arith, w .count, w .view .count, e .view .count, step-count n line op (w .state) (e .state) (e .is), measures-one op);
+          lines = omega (arith, w .lines, k);
         })
 
-    pub walk-dry : at < length text → Stops text at n coins d s marks t → run n 2 (lines-of n body text) (begin n coins) ≡ refused 7 line
-    walk-dry l g =
-        let q = next-at n (w .room) line text at (w .ops) (w .left) (g .op) (g .next) l (g .stands) in
-        w .so-far ∙ ap (λ (o : List Op). run n line o (w .state)) (q .ops-is) ∙ ap (λ (v : Verdict State). then v (run n (suc line) (q .more))) (g .stops line (w .state) (w .view))
+    -- what is left of an accepted text
+    pub record Rest (ops : List Op) : Type 0 where
+      pub more : List Op
+      pub left-is : operations n (w .room) line (drop at text) ≡ accepted more
+      pub ops-are : w .done ++ more ≡ ops
 
-    pub walk-whole : at < length text → op-line (drop at text) ≡ malformed → ⊥
-    walk-whole l e = never-malformed n (w .room) line text at (w .ops) (w .left) l e
+    rest : (ops : List Op) → operations n most-operations 2 (drop body text) ≡ accepted ops → Rest ops
+    rest ops a =
+        let q = then-accepted (operations n (w .room) line (drop at text)) (λ more. accepted (w .done ++ more)) ops (sym (w .left) ∙ a) in
+        record { more = q .value; left-is = q .first; ops-are = (let z = q .later in cc) }
+
+    pub walk-dry : at < length text → Stops text at n coins d s marks t → Stuck text body n coins line
+    walk-dry l g a =
+        let r = rest (lines-of n body text) a in
+        let q = next-at n (w .room) line text at (r .more) (r .left-is) (g .op) (g .next) l (g .stands) in
+        ap (λ (o : List Op). run n 2 o (begin n coins)) (sym (r .ops-are)) ∙ w .so-far (r .more) ∙ ap (λ (o : List Op). run n line o (w .state)) (q .ops-is)
+        ∙ ap (λ (v : Verdict State). then v (run n (suc line) (q .more))) (g .stops line (w .state) (w .view))
+
+    pub walk-refused : at < length text → (at < length text → (room line : ℕ) (ops : List Op) → operations n room line (drop at text) ≡ accepted ops → ⊥) → Stuck text body n coins line
+    walk-refused l g a =
+        let r = rest (lines-of n body text) a in
+        absurd (g l (w .room) line (r .more) (r .left-is))
+
+    pub walk-full : at < length text → line ≡ 4098 → Stuck text body n coins line
+    walk-full l f a =
+        let r = rest (lines-of n body text) a in
+        let q = next-line n (w .room) line (drop at text) (r .more) (r .left-is) (rw (front text at l)) in
+        absurd (omega (arith, q .room-is, w .lines))
 
     pub walk-end : length text ≤ at → Ended text body n coins d s marks t
-    walk-end l = record {
-      state = w .state;
-      is = w .so-far ∙ ap (λ (o : List Op). run n line o (w .state)) (none-left n (w .room) line text at (w .ops) (w .left) l);
-      view = w .view;
-    }
+    walk-end l =
+        let z : operations n (w .room) line (drop at text) ≡ accepted [] = operations-end n (w .room) line (drop at text) (rw (past text at l)) in
+        let a : operations n most-operations 2 (drop body text) ≡ accepted (w .done ++ []) = w .left ∙ ap (λ (v : Verdict (List Op)). then v (λ ops. accepted (w .done ++ ops))) z in
+        let o : lines-of n body text ≡ w .done ++ [] = ap or-none a in
+        record {
+          state = w .state;
+          lines = a ∙ ap accepted (sym o);
+          is = ap (λ (ops : List Op). run n 2 ops (begin n coins)) o ∙ w .so-far [];
+          view = w .view;
+        }

@@ -1,22 +1,26 @@
 -- What the parts of a run promise one another: a measurement, one line, and the walk over all lines. Assumes nothing.
-use mathlib.Core.Bool.{Bool}
+use mathlib.Core.Bool.{Bool, true}
 use mathlib.Core.List.{List, [], _∷_, map}
 use mathlib.Core.Option.{none, some}
 use mathlib.Core.Path.{_≡_}
 use Prim.Native.Nat.{ℕ, _≤_, _<_}
+use lib.Dec.{leb}
 use lib.ListN.{length, take, drop}
 use Rattle.answers.specs.Refusals.{numberOf, placeOf}
-use Rattle.answers.specs.Verdict.{Verdict, accepted, refused, over}
+use Rattle.answers.specs.Verdict.{Verdict, accepted, refused, then, unless, over}
+use Rattle.clifford.specs.declared.Gate.{Gate}
 use Rattle.clifford.specs.declared.Op.{Op}
-use Rattle.clifford.specs.declared.Op.the-variants.{Measure as measure}
+use Rattle.clifford.specs.declared.Op.the-variants.{Gate as apply, Measure as measure}
 use Rattle.clifford.specs.Tableau.{Rows, start}
 use Rattle.clifford.specs.Measurement.{random-row, collapsed, fixed-value}
-use Rattle.clifford.specs.Run.{State, coin, step, run, Valid}
-use Rattle.circuit.specs.Lines.{op-line, malformed}
+use Rattle.clifford.specs.Run.{State, coin, step, run}
+use Rattle.circuit.specs.Lines.{op-line}
 use Rattle.circuit.specs.Reading.{Stands}
-use Rattle.circuit.specs.Text.{operations, most-operations}
+use Rattle.circuit.specs.Text.{all-below, apart, operations, meaning, most-operations}
+use Rattle.circuit.specs.Coded.{op-in}
 use Rattle.circuit.specs.Promises.{count-measured}
 use Rattle.packing.specs.View.{Words, rows-of}
+use Rattle.columns.specs.Gated.{Gated}
 use Rattle.records.specs.Record.{mark, record-length}
 use Rattle.run.specs.declared.Shot.{Shot}
 use Rattle.run.specs.declared.Shot.the-variants as shot
@@ -75,10 +79,19 @@ pub record Went (n : ℕ) (coins : List ℕ) (v : Verdict State) (d s marks : Li
   pub is : v ≡ accepted state
   pub view : View n coins state d s marks t
 
--- the line at this position is done, and the next one stands behind it
+-- the gate of a number took both groups to others
+pub record Applies (code : ℕ) (d s d′ s′ : List ℕ) : Type 0 where
+  pub gate : Gate
+  pub is : op-in code ≡ apply gate
+  pub d-gated : Gated gate d d′
+  pub s-gated : Gated gate s s′
+
+-- the line at this position is allowed and done, and the next one stands behind it
 pub record Goes (text : List ℕ) (at n : ℕ) (coins d s marks : List ℕ) (t : Tally) (next : ℕ) (d′ s′ marks′ : List ℕ) (t′ : Tally) : Type 0 where
   pub op : Op
   pub stands : Stands op-line text at op next
+  pub below : all-below n op ≡ true
+  pub parted : apart op ≡ true
   pub goes : (line : ℕ) (e : State) → View n coins e d s marks t → Went n coins (step n line op e) d′ s′ marks′ t′
 
 -- it is a random measurement that finds no coin
@@ -91,7 +104,7 @@ pub record Stops (text : List ℕ) (at n : ℕ) (coins d s marks : List ℕ) (t 
 abbrev pub StepAs : List ℕ → ℕ → ℕ → List ℕ → List ℕ → List ℕ → List ℕ → Tally → Step → List ℕ → List ℕ → List ℕ → Type 0
 StepAs text at n coins d s marks t (steps.Next next t′) d′ s′ marks′ = Goes text at n coins d s marks t next d′ s′ marks′ t′
 StepAs text at n coins d s marks t steps.NoCoin d′ s′ marks′ = Stops text at n coins d s marks t
-StepAs text at n coins d s marks t steps.Malformed d′ s′ marks′ = op-line (drop at text) ≡ malformed
+StepAs text at n coins d s marks t steps.Refused d′ s′ marks′ = at < length text → (room line : ℕ) (ops : List Op) → operations n room line (drop at text) ≡ accepted ops → ⊥
 
 -- the words are whole, and the counters have room for one more
 pub record Room (n : ℕ) (coins d s marks : List ℕ) (t : Tally) : Type 0 where
@@ -109,7 +122,7 @@ abbrev pub MeasureAs : ℕ → ℕ → List ℕ → List ℕ → List ℕ → Li
 MeasureAs n a coins d s marks t next (steps.Next behind t′) d′ s′ marks′ =
     (behind ≡ next) × ((line : ℕ) (e : State) → View n coins e d s marks t → Went n coins (step n line (measure a) e) d′ s′ marks′ t′)
 MeasureAs n a coins d s marks t next steps.NoCoin d′ s′ marks′ = (line : ℕ) (e : State) → View n coins e d s marks t → step n line (measure a) e ≡ refused 7 line
-MeasureAs n a coins d s marks t next steps.Malformed d′ s′ marks′ = ⊥
+MeasureAs n a coins d s marks t next steps.Refused d′ s′ marks′ = ⊥
 
 abbrev pub or-none : Verdict (List Op) → List Op
 or-none (accepted ops) = ops
@@ -119,45 +132,32 @@ or-none (refused number place) = []
 abbrev pub lines-of : ℕ → ℕ → List ℕ → List Op
 lines-of n body text = or-none (operations n most-operations 2 (drop body text))
 
--- the walk came to the end of the text
+-- the walk came to the end of the text, which is thereby accepted
 pub record Ended (text : List ℕ) (body n : ℕ) (coins d s marks : List ℕ) (t : Tally) : Type 0 where
   pub state : State
+  pub lines : operations n most-operations 2 (drop body text) ≡ accepted (lines-of n body text)
   pub is : run n 2 (lines-of n body text) (begin n coins) ≡ accepted state
   pub view : View n coins state d s marks t
 
+-- it came to a line that goes no further: if the text is accepted all the same, it is for want of a coin
+abbrev pub Stuck : List ℕ → ℕ → ℕ → List ℕ → ℕ → Type 0
+Stuck text body n coins line = operations n most-operations 2 (drop body text) ≡ accepted (lines-of n body text) → run n 2 (lines-of n body text) (begin n coins) ≡ refused 7 line
+
 abbrev pub WalkAs : List ℕ → ℕ → ℕ → List ℕ → Walked → List ℕ → List ℕ → List ℕ → Type 0
 WalkAs text body n coins (walked.Done t) d s marks = Ended text body n coins d s marks t
-WalkAs text body n coins (walked.NoCoin line) d s marks = run n 2 (lines-of n body text) (begin n coins) ≡ refused 7 line
+WalkAs text body n coins (walked.Stopped line) d s marks = Stuck text body n coins line
 
--- where the walk may begin: at an accepted text, with the start rows
-pub record Walkable (text : List ℕ) (body n : ℕ) (d s marks : List ℕ) : Type 0 where
+-- where the walk may begin: with the start rows
+pub record Walkable (n : ℕ) (d s marks : List ℕ) : Type 0 where
   pub qubits : n ≤ 64
-  pub lines : operations n most-operations 2 (drop body text) ≡ accepted (lines-of n body text)
   pub d-words : Words d
   pub s-words : Words s
   pub room : length marks ≡ 4096
   pub from-start : start n ≡ rows-of n d s
 
--- where a circuit may be run: its text is accepted, and the buffer has room for its record
-pub record Playable (text : List ℕ) (body n : ℕ) (old : List ℕ) : Type 0 where
-  pub some-qubits : 1 ≤ n
-  pub few-qubits : n ≤ 64
-  pub lines : operations n most-operations 2 (drop body text) ≡ accepted (lines-of n body text)
-  pub room : record-length n (count-measured (lines-of n body text)) ≤ length old
-
--- the circuit was run to its end, and its record written
-pub record Played (text : List ℕ) (body n : ℕ) (coins old : List ℕ) (size : ℕ) (t : Tally) (new : List ℕ) : Type 0 where
-  pub state : State
-  pub is : run n 2 (lines-of n body text) (begin n coins) ≡ accepted state
-  pub size-is : size ≡ length (sheet n state .bytes)
-  pub tally-is : t ≡ sheet n state .tally
-  pub rest-is : state .coins ≡ drop (t .taken) coins
-  pub enough : t .taken ≤ length coins
-  pub buffer : new ≡ over (sheet n state .bytes) old
-
-abbrev pub PlayAs : List ℕ → ℕ → ℕ → List ℕ → List ℕ → Ran → List ℕ → Type 0
-PlayAs text body n coins old (ran.Sheet size t) new = Played text body n coins old size t new
-PlayAs text body n coins old (ran.Refused r) new = (run n 2 (lines-of n body text) (begin n coins) ≡ refused (numberOf r) (placeOf r)) × (new ≡ old)
+-- what is answered where the run of an accepted text finds no coin on this line
+unfoldable pub judgement : List ℕ → ℕ → ℕ → Verdict Sheet
+judgement text line room = then (meaning text) (λ c. unless (leb (record-length (c .qubits) (count-measured (c .ops))) room) 8 0 (refused 7 line))
 
 -- the run was accepted
 pub record Sheeted (text coins old : List ℕ) (size : ℕ) (t : Tally) (new : List ℕ) : Type 0 where

@@ -1,21 +1,21 @@
-// The run of a circuit text on lent coins: the text is checked, its operations are walked over the packed tableau, and the record is written at the end,
-// so that a refused run has written nothing and taken no coin.
+// The run of a circuit text on lent coins: its lines are read and run one by one over the packed tableau, and the record is written at the end,
+// so that a refused run has written nothing. A line that is refused, or finds no coin, stops the walk, and the whole text then says why.
 ghost use mathlib.Core.Path.{_≡_};
 ghost use mathlib.Core.List.{[], _∷_};
-ghost use Prim.Native.Nat.{ℕ, _+_, _≤_, _<_};
+ghost use Prim.Native.Nat.{_+_, _%_, _≤_, _<_};
 ghost use lib.ListN.{length, drop};
-ghost use Rattle.clifford.specs.declared.Op.{Op};
+ghost use Rattle.answers.specs.Refusals.{numberOf, placeOf};
+ghost use Rattle.answers.specs.Verdict.{refused};
 ghost use Rattle.clifford.specs.Run.{Valid};
-ghost use Rattle.circuit.specs.Lines.{op-line};
-ghost use Rattle.circuit.specs.Reading.{Stands};
+ghost use Rattle.circuit.specs.Coded.{op-in};
+ghost use Rattle.circuit.specs.Promises.{Headed};
 ghost use Rattle.packing.specs.View.{Words, rows-of};
 ghost use Rattle.records.specs.Record.{mark-of};
 ghost use Rattle.run.specs.Run.{Runs};
-ghost use Rattle.run.specs.Walk.{ShotAs, Room, MeasureAs, StepAs, Walkable, WalkAs, Playable, PlayAs, RanAs};
+ghost use Rattle.run.specs.Walk.{ShotAs, Room, MeasureAs, Applies, StepAs, Walkable, WalkAs, judgement, RanAs};
 use answers::Refusal;
-use circuit::Line;
+use circuit::Heading;
 use circuit::Scanned;
-use clifford::Op;
 use columns::Found;
 use tableau::Tableau;
 use tally::Tally;
@@ -62,11 +62,11 @@ fn mark(random: bool, value: bool) -> u8
     }
 }
 
-// What a line comes to: the position behind it and the tally, or a measurement without a coin, or no line.
+// What a line comes to: the position behind it and the tally, or a measurement without a coin, or a line that is refused.
 enum Step {
     Next(usize, Tally),
     NoCoin,
-    Malformed,
+    Refused,
 }
 
 fn measure(
@@ -97,6 +97,29 @@ fn measure(
     }
 }
 
+// The gate of this number, on both groups.
+fn apply(d: &mut [u64; 129], s: &mut [u64; 129], code: usize)
+    requires { ⌜ Words (now d) × Words (now s) × Valid 64 (op-in code) × (code % 256 ≡ 77 → ⊥) ⌝ }
+    ensures { λ _. ⌜ Applies code (now (d .entry)) (now (s .entry)) (now (d .exit)) (now (s .exit)) ⌝ }
+{
+    let name = code % 256;
+    let a = code / 256 % 256;
+    if name == 1 {
+        let b = code / 65536 % 256;
+        columns::cx(d, a, b);
+        columns::cx(s, a, b);
+        return;
+    }
+    if name == 2 {
+        let b = code / 65536 % 256;
+        columns::cz(d, a, b);
+        columns::cz(s, a, b);
+        return;
+    }
+    columns::one(d, name, a);
+    columns::one(s, name, a);
+}
+
 fn turn(
     text: &[u8],
     at: usize,
@@ -107,26 +130,25 @@ fn turn(
     coins: &[u8],
     tally: Tally,
 ) -> Step
-    requires { ⌜ Room n (now coins) (now d) (now s) (now marks) tally ⌝ ∗ ⌜ ((op : Op) (next : ℕ) → Stands op-line (now text) at op next → Valid n op) ⌝ }
+    requires { ⌜ Room n (now coins) (now d) (now s) (now marks) tally ⌝ }
     ensures { λ r. ⌜ StepAs (now (text .entry)) at n (now (coins .entry)) (now (d .entry)) (now (s .entry)) (now (marks .entry)) tally r (now (d .exit)) (now (s .exit)) (now (marks .exit)) ⌝ }
 {
-    match circuit::line_at(text, at) {
-        Line::Op(op, next) => match op {
-            Op::Gate(g) => {
-                columns::gate(d, g);
-                columns::gate(s, g);
-                Step::Next(next, tally)
-            }
-            Op::Measure(a) => measure(d, s, marks, n, a, coins, tally, next),
-        },
-        Line::Malformed => Step::Malformed,
+    let code = circuit::op_at(text, at, n);
+    if code == 0 {
+        return Step::Refused;
     }
+    let next = at + code / 16777216;
+    if code % 256 == 77 {
+        return measure(d, s, marks, n, code / 256 % 256, coins, tally, next);
+    }
+    apply(d, s, code);
+    Step::Next(next, tally)
 }
 
-// How the walk over all lines ends.
+// How the walk over all lines ends: at the end of the text, or at a line that goes no further.
 enum Walked {
     Done(Tally),
-    NoCoin(usize),
+    Stopped(usize),
 }
 
 fn walk(
@@ -138,7 +160,7 @@ fn walk(
     n: usize,
     coins: &[u8],
 ) -> Walked
-    requires { ⌜ Walkable (now text) body n (now d) (now s) (now marks) ⌝ }
+    requires { ⌜ Walkable n (now d) (now s) (now marks) ⌝ }
     ensures { λ r. ⌜ WalkAs (now (text .entry)) body n (now (coins .entry)) r (now (d .exit)) (now (s .exit)) (now (marks .exit)) ⌝ }
 {
     let mut tally = Tally {
@@ -149,6 +171,9 @@ fn walk(
     let mut at = body;
     let mut line: usize = 2;
     while at < text.len() {
+        if line == 4098 {
+            return Walked::Stopped(line);
+        }
         match turn(text, at, d, s, marks, n, coins, tally) {
             Step::Next(next, stepped) => {
                 at = next;
@@ -156,14 +181,34 @@ fn walk(
                 line += 1;
             }
             Step::NoCoin => {
-                return Walked::NoCoin(line);
+                return Walked::Stopped(line);
             }
-            Step::Malformed => {
-                return Walked::NoCoin(line);
+            Step::Refused => {
+                return Walked::Stopped(line);
             }
         }
     }
     Walked::Done(tally)
+}
+
+// Why the run of a text stops at this line: 1 to 6 if the text is refused, and then 8 before 7.
+fn judged(text: &[u8], line: usize, room: usize) -> Refusal
+    ensures { λ r. ⌜ judgement (now (text .entry)) line room ≡ refused (numberOf r) (placeOf r) ⌝ }
+{
+    match circuit::scan(text) {
+        Scanned::Circuit {
+            qubits,
+            operations: _,
+            measured,
+            body: _,
+        } => {
+            if room < writing::record_size(qubits, measured) {
+                return Refusal::NoRoom;
+            }
+            Refusal::NoCoin(line)
+        }
+        Scanned::Refused(r) => r,
+    }
 }
 
 // The record's length and the tally, or why there is no record.
@@ -173,8 +218,8 @@ enum Ran {
 }
 
 fn play(text: &[u8], body: usize, n: usize, coins: &[u8], record: &mut [u8]) -> Ran
-    requires { ⌜ Playable (now text) body n (now «record») ⌝ }
-    ensures { λ r. ⌜ PlayAs (now (text .entry)) body n (now (coins .entry)) (now («record» .entry)) r (now («record» .exit)) ⌝ }
+    requires { ⌜ Headed (now text) n body ⌝ }
+    ensures { λ r. ⌜ RanAs (now (text .entry)) (now (coins .entry)) (now («record» .entry)) r (now («record» .exit)) ⌝ }
 {
     let t = Tableau::start(n);
     let mut d = t.destabilizers;
@@ -183,29 +228,22 @@ fn play(text: &[u8], body: usize, n: usize, coins: &[u8], record: &mut [u8]) -> 
     match walk(text, body, &mut d, &mut s, &mut marks, n, coins) {
         Walked::Done(tally) => {
             let count = tally.measured;
+            if record.len() < writing::record_size(n, count) {
+                return Ran::Refused(Refusal::NoRoom);
+            }
             let size = writing::put_record(record, &marks[..count], &d, &s, n);
             Ran::Sheet(size, tally)
         }
-        Walked::NoCoin(line) => Ran::Refused(Refusal::NoCoin(line)),
+        Walked::Stopped(line) => Ran::Refused(judged(text, line, record.len())),
     }
 }
 
 fn simulate(text: &[u8], coins: &[u8], record: &mut [u8]) -> Ran
     ensures { λ r. ⌜ RanAs (now (text .entry)) (now (coins .entry)) (now («record» .entry)) r (now («record» .exit)) ⌝ }
 {
-    match circuit::scan(text) {
-        Scanned::Circuit {
-            qubits,
-            operations: _,
-            measured,
-            body,
-        } => {
-            if record.len() < writing::record_size(qubits, measured) {
-                return Ran::Refused(Refusal::NoRoom);
-            }
-            play(text, body, qubits, coins, record)
-        }
-        Scanned::Refused(r) => Ran::Refused(r),
+    match circuit::head(text) {
+        Heading::Qubits(qubits, body) => play(text, body, qubits, coins, record),
+        Heading::Refused(r) => Ran::Refused(r),
     }
 }
 
