@@ -123,7 +123,7 @@ module _ (text : List ℕ) (body n : ℕ) (coins : List ℕ) where
         let r = rest (lines-of n body text) a in
         absurd (g l (w .room) line (r .more) (r .left-is))
 
-    pub walk-full : at < length text → line ≡ 4098 → Stuck text body n coins line
+    pub walk-full : at < length text → 4098 ≤ line → Stuck text body n coins line
     walk-full l f a =
         let r = rest (lines-of n body text) a in
         let q = next-line n (w .room) line (drop at text) (r .more) (r .left-is) (rw (front text at l)) in

@@ -1,4 +1,5 @@
 -- `run::apply` meets its contract. Assumes nothing.
+use borrow.Author.Needs.{needs}
 use Rattle.circuit.proofs.Codes.{is-cx, is-cz, is-one}
 use Rattle.run.proofs.apply.Statement.{statement}
 use Rattle.run.proofs.apply.Tie as tie
@@ -6,12 +7,12 @@ use Rattle.run.proofs.apply.Tie as tie
 cx-requires : tie.Need-cx-requires
 cx-requires c κs =
     let v = rw (is-cx (c .before .before .args .code) (c .before .if1 .taken)) at (c .before .before .pre .2) in
-    (c .before .before .pre .0, v .0, v .1, v .2)
+    (search needs, v .0, v .1, v .2)
 
 cx-requires-2 : tie.Need-cx-requires-2
 cx-requires-2 c κs =
     let v = rw (is-cx (c .before .before .before .before .args .code) (c .before .before .before .if1 .taken)) at (c .before .before .before .before .pre .2) in
-    (c .before .before .before .before .pre .1, v .0, v .1, v .2)
+    (search needs, v .0, v .1, v .2)
 
 returns : tie.Need-returns
 returns c = record { gate = _; is = is-cx (c .before .before .before .before .before .args .code) (c .before .before .before .before .if1 .taken); d-gated = c .before .before .cx .ensures; s-gated = c .cx2 .ensures }
@@ -19,21 +20,21 @@ returns c = record { gate = _; is = is-cx (c .before .before .before .before .be
 cz-requires : tie.Need-cz-requires
 cz-requires c κs =
     let v = rw (is-cz (c .before .before .before .args .code) (c .before .if2 .taken)) at (c .before .before .before .pre .2) in
-    (c .before .before .before .pre .0, v .0, v .1, v .2)
+    (search needs, v .0, v .1, v .2)
 
 cz-requires-2 : tie.Need-cz-requires-2
 cz-requires-2 c κs =
     let v = rw (is-cz (c .before .before .before .before .before .args .code) (c .before .before .before .if2 .taken)) at (c .before .before .before .before .before .pre .2) in
-    (c .before .before .before .before .before .pre .1, v .0, v .1, v .2)
+    (search needs, v .0, v .1, v .2)
 
 returns-2 : tie.Need-returns-2
 returns-2 c = record { gate = _; is = is-cz (c .before .before .before .before .before .before .args .code) (c .before .before .before .before .if2 .taken); d-gated = c .before .before .cz .ensures; s-gated = c .cz2 .ensures }
 
 one-requires : tie.Need-one-requires
-one-requires c κs = (c .before .before .before .pre .0, rw (is-one (c .before .before .before .args .code) (c .before .before .before .pre .3) (c .before .before .if1 .left) (c .before .if2 .left)) at (c .before .before .before .pre .2))
+one-requires c κs = (search needs, rw (is-one (c .before .before .before .args .code) (c .before .before .before .pre .3) (c .before .before .if1 .left) (c .before .if2 .left)) at (c .before .before .before .pre .2))
 
 one-requires-2 : tie.Need-one-requires-2
-one-requires-2 c κs = (c .before .before .before .before .before .pre .1, rw (is-one (c .before .before .before .before .before .args .code) (c .before .before .before .before .before .pre .3) (c .before .before .before .before .if1 .left) (c .before .before .before .if2 .left)) at (c .before .before .before .before .before .pre .2))
+one-requires-2 c κs = (search needs, rw (is-one (c .before .before .before .before .before .args .code) (c .before .before .before .before .before .pre .3) (c .before .before .before .before .if1 .left) (c .before .before .before .if2 .left)) at (c .before .before .before .before .before .pre .2))
 
 returns-3 : tie.Need-returns-3
 returns-3 c = record { gate = _; is = is-one (c .before .before .before .before .before .before .args .code) (c .before .before .before .before .before .before .pre .3) (c .before .before .before .before .before .if1 .left) (c .before .before .before .before .if2 .left); d-gated = c .before .before .one .ensures; s-gated = c .one2 .ensures }

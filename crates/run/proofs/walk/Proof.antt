@@ -20,7 +20,7 @@ returns : tie.Need-returns Inv-loop μ-loop
 returns c =
     let e = c .before .before .before .before .before in
     let l = c .before .before .loop in
-    walk-full (e .args .text .now) (e .args .body) (e .args .n) (e .args .coins .now) (l .d) (l .s) (l .marks) (l .tally) (l .at) (l .line) (l .inv) (c .before .loop-test .taken) (c .if1 .taken)
+    walk-full (e .args .text .now) (e .args .body) (e .args .n) (e .args .coins .now) (l .d) (l .s) (l .marks) (l .tally) (l .at) (l .line) (l .inv) (c .before .loop-test .taken) (omega (arith, c .if1 .taken))
 
 turn-requires : tie.Need-turn-requires Inv-loop μ-loop
 turn-requires c κs =
