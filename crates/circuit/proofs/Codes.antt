@@ -22,7 +22,7 @@ use Rattle.circuit.specs.Lines.{malformed, op-line}
 use Rattle.circuit.specs.Text.{all-below, apart, operations}
 use Rattle.circuit.specs.Reading.{Stands}
 use Rattle.circuit.specs.Promises.{measures}
-use Rattle.circuit.specs.Coded.{op-of, op-in, length-in, Allowed, OpAt}
+use Rattle.circuit.specs.Coded.{op-of, op-in, name-in, first-in, second-in, length-in, Allowed, OpAt}
 use Rattle.circuit.proofs.Walk.{and-left, valid-op, next-at, never-malformed}
 
 -- what stands above a place, and under it
@@ -148,16 +148,16 @@ module _ (s : List ℕ) (at n : ℕ) where
 pub allowed-valid : (s : List ℕ) (at n code : ℕ) → Allowed s at n code → Valid n (op-in code)
 allowed-valid s at n code w = valid-op n (op-in code) (w .below) (w .parted)
 
--- the operation by the lowest byte of its number
-module _ (code : ℕ) where
-  pub is-measure : code % 256 ≡ 77 → op-in code ≡ measure (code / 256 % 256)
-  is-measure e = rw e
+-- the operation by the parts of its number
+module _ (code name a : ℕ) (p : name ≡ name-in code) (q : a ≡ first-in code) where
+  pub is-measure : name ≡ 77 → op-in code ≡ measure a
+  is-measure e = rw (sym p ∙ e, q)
 
-  pub is-cx : code % 256 ≡ 1 → op-in code ≡ apply (two Cx (code / 256 % 256) (code / 65536 % 256))
-  is-cx e = rw e
+  pub is-cx : (b : ℕ) → b ≡ second-in code → name ≡ 1 → op-in code ≡ apply (two Cx a b)
+  is-cx b r e = rw (sym p ∙ e, q, r)
 
-  pub is-cz : code % 256 ≡ 2 → op-in code ≡ apply (two Cz (code / 256 % 256) (code / 65536 % 256))
-  is-cz e = rw e
+  pub is-cz : (b : ℕ) → b ≡ second-in code → name ≡ 2 → op-in code ≡ apply (two Cz a b)
+  is-cz b r e = rw (sym p ∙ e, q, r)
 
-  pub is-one : (code % 256 ≡ 77 → ⊥) → (code % 256 ≡ 1 → ⊥) → (code % 256 ≡ 2 → ⊥) → op-in code ≡ apply (one (one-of (code % 256)) (code / 256 % 256))
-  is-one m x z = rw (ne-eqb (code % 256) 77 m, ne-eqb (code % 256) 1 x, ne-eqb (code % 256) 2 z)
+  pub is-one : (name ≡ 77 → ⊥) → (name ≡ 1 → ⊥) → (name ≡ 2 → ⊥) → op-in code ≡ apply (one (one-of name) a)
+  is-one m x z = rw (sym p, sym q, ne-eqb name 77 m, ne-eqb name 1 x, ne-eqb name 2 z)

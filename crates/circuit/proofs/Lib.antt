@@ -8,4 +8,4 @@ pub mod Meant
 pub mod OneAnswer
 pub mod Codes
 pub mod Bounds
-pub mod Usual
+pub mod UsualLines

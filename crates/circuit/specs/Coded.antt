@@ -20,11 +20,20 @@ abbrev pub op-of : ℕ → ℕ → ℕ → Op
 op-of name a b = cond (eqb name 77) (measure a) (cond (eqb name 1) (apply (two Cx a b)) (cond (eqb name 2) (apply (two Cz a b)) (apply (one (one-of name) a))))
 
 -- the bytes of the number from the lowest up: the name, the two qubits, and then the length
-abbrev pub op-in : ℕ → Op
-op-in code = op-of (code % 256) (code / 256 % 256) (code / 65536 % 256)
+abbrev pub name-in : ℕ → ℕ
+name-in code = code % 256
+
+abbrev pub first-in : ℕ → ℕ
+first-in code = code / 256 % 256
+
+abbrev pub second-in : ℕ → ℕ
+second-in code = code / 65536 % 256
 
 abbrev pub length-in : ℕ → ℕ
 length-in code = code / 16777216
+
+abbrev pub op-in : ℕ → Op
+op-in code = op-of (name-in code) (first-in code) (second-in code)
 
 -- the line there is this operation's, and 4 and 5 do not refuse it
 pub record Allowed (s : List ℕ) (at n code : ℕ) : Type 0 where
@@ -33,8 +42,8 @@ pub record Allowed (s : List ℕ) (at n code : ℕ) : Type 0 where
   pub parted : apart (op-in code) ≡ true
 
 -- an allowed operation, or 0, which says nothing
-abbrev pub Short : List ℕ → ℕ → ℕ → ℕ → Type 0
-Short s at n code = 0 < code → Allowed s at n code
+abbrev pub Usual : List ℕ → ℕ → ℕ → ℕ → Type 0
+Usual s at n code = 0 < code → Allowed s at n code
 
 -- an allowed operation, or 0, where no text goes on that is accepted
 pub record OpAt (s : List ℕ) (at n code : ℕ) : Type 0 where

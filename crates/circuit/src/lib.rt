@@ -16,9 +16,10 @@ use clifford::Op;
 use clifford::Two;
 use numbers::Number;
 
-mod coded;
+pub mod code;
 mod numbers;
-mod short;
+mod other;
+mod usual;
 
 // An operation with the position behind its line.
 pub enum Line {
@@ -158,11 +159,11 @@ pub fn op_at(s: &[u8], at: usize, n: usize) -> usize
     requires { ⌜ n ≤ 64 ⌝ }
     ensures { λ r. ⌜ OpAt (now (s .entry)) at n r ⌝ }
 {
-    let usual = short::line_at(s, at, n);
-    if 0 < usual {
-        return usual;
+    let found = usual::line_at(s, at, n);
+    if 0 < found {
+        return found;
     }
-    coded::line_at(s, at, n)
+    other::line_at(s, at, n)
 }
 
 fn one_if_measure(op: Op) -> usize
@@ -197,9 +198,9 @@ fn turn_at(s: &[u8], at: usize, n: usize, line: usize) -> Turn
     requires { ⌜ n ≤ 64 ⌝ }
     ensures { λ r. ⌜ TurnAt (now (s .entry)) at n line r ⌝ }
 {
-    let usual = short::line_at(s, at, n);
-    if 0 < usual {
-        return Turn::Next(at + usual / 16777216, coded::one_if_measure(usual));
+    let found = usual::line_at(s, at, n);
+    if 0 < found {
+        return Turn::Next(at + code::length(found), code::one_if_measure(found));
     }
     judged_at(s, at, n, line)
 }

@@ -2,12 +2,12 @@
 // so that a refused run has written nothing. A line that is refused, or finds no coin, stops the walk, and the whole text then says why.
 ghost use mathlib.Core.Path.{_≡_};
 ghost use mathlib.Core.List.{[], _∷_};
-ghost use Prim.Native.Nat.{_+_, _%_, _≤_, _<_};
+ghost use Prim.Native.Nat.{_+_, _≤_, _<_};
 ghost use lib.ListN.{length, drop};
 ghost use Rattle.answers.specs.Refusals.{numberOf, placeOf};
 ghost use Rattle.answers.specs.Verdict.{refused};
 ghost use Rattle.clifford.specs.Run.{Valid};
-ghost use Rattle.circuit.specs.Coded.{op-in};
+ghost use Rattle.circuit.specs.Coded.{op-in, name-in};
 ghost use Rattle.circuit.specs.Promises.{Headed};
 ghost use Rattle.packing.specs.View.{Words, rows-of};
 ghost use Rattle.records.specs.Record.{mark-of};
@@ -99,19 +99,18 @@ fn measure(
 
 // The gate of this number, on both groups.
 fn apply(d: &mut [u64; 129], s: &mut [u64; 129], code: usize)
-    requires { ⌜ Words (now d) × Words (now s) × Valid 64 (op-in code) × (code % 256 ≡ 77 → ⊥) ⌝ }
+    requires { ⌜ Words (now d) × Words (now s) × Valid 64 (op-in code) × (name-in code ≡ 77 → ⊥) ⌝ }
     ensures { λ _. ⌜ Applies code (now (d .entry)) (now (s .entry)) (now (d .exit)) (now (s .exit)) ⌝ }
 {
-    let name = code % 256;
-    let a = code / 256 % 256;
+    let name = circuit::code::name(code);
+    let a = circuit::code::first(code);
+    let b = circuit::code::second(code);
     if name == 1 {
-        let b = code / 65536 % 256;
         columns::cx(d, a, b);
         columns::cx(s, a, b);
         return;
     }
     if name == 2 {
-        let b = code / 65536 % 256;
         columns::cz(d, a, b);
         columns::cz(s, a, b);
         return;
@@ -137,9 +136,10 @@ fn turn(
     if code == 0 {
         return Step::Refused;
     }
-    let next = at + code / 16777216;
-    if code % 256 == 77 {
-        return measure(d, s, marks, n, code / 256 % 256, coins, tally, next);
+    let next = at + circuit::code::length(code);
+    if circuit::code::name(code) == 77 {
+        let a = circuit::code::first(code);
+        return measure(d, s, marks, n, a, coins, tally, next);
     }
     apply(d, s, code);
     Step::Next(next, tally)

@@ -1,5 +1,6 @@
 -- `run::turn` meets its contract. Assumes nothing.
-use mathlib.Core.Path.{refl}
+use mathlib.Core.Path.{_∙_, ap}
+use Prim.Native.Nat.{ℕ, _+_}
 use native.Mathlib.Omega.{arith}
 use Rattle.circuit.specs.Coded.{op-in}
 use Rattle.circuit.proofs.Walk.{valid-op}
@@ -15,36 +16,53 @@ op-at-requires c κs = search needs
 returns : tie.Need-returns
 returns c = c .before .op-at .ensures .refuses (c .if1 .taken)
 
+length-requires : tie.Need-length-requires
+length-requires c κs = search needs
+
 add-next : tie.Need-add-next
-add-next c = omega (arith, (c .before .op-at .ensures .allows (omega (arith, c .if1 .left))) .stands .within)
+add-next c = omega (arith, c .length .ensures, (c .before .before .op-at .ensures .allows (omega (arith, c .before .if1 .left))) .stands .within)
+
+name-requires : tie.Need-name-requires
+name-requires c κs = search needs
+
+first-requires : tie.Need-first-requires
+first-requires c κs = search needs
 
 measure-requires : tie.Need-measure-requires
 measure-requires c κs =
-    let a = c .before .before .before .before .before .before .before .before .args in
-    let code = c .before .before .before .before .before .op-at .result in
-    (c .before .before .before .before .before .before .before .before .pre, rw (is-measure code (c .before .before .before .if2 .taken)) at (allowed-valid (a .text .now) (a .at) (a .n) code (c .before .before .before .before .before .op-at .ensures .allows (omega (arith, c .before .before .before .before .if1 .left)))))
+    let a = c .before .before .before .before .before .before .before .before .before .before .before .args in
+    (c .before .before .before .before .before .before .before .before .before .before .before .pre, rw (is-measure (c .before .before .before .before .before .before .before .before .op-at .result) (c .before .before .before .before .before .name .result) (c .before .before .before .first .result) (c .before .before .before .before .before .name .ensures) (c .before .before .before .first .ensures) (c .before .before .before .before .if2 .taken)) at (allowed-valid (a .text .now) (a .at) (a .n) (c .before .before .before .before .before .before .before .before .op-at .result) (c .before .before .before .before .before .before .before .before .op-at .ensures .allows (omega (arith, c .before .before .before .before .before .before .before .if1 .left)))))
 
 returns-2 : tie.Need-returns-2
 returns-2 c =
-    let a = c .before .before .before .before .before .before .before .before .before .args in
-    let code = c .before .before .before .before .before .before .op-at .result in
-    let w = c .before .before .before .before .before .before .op-at .ensures .allows (omega (arith, c .before .before .before .before .before .if1 .left)) in
-    let e = is-measure code (c .before .before .before .before .if2 .taken) in
-    measured-step (a .text .now) (a .at) (a .n) _ (a .coins .now) (a .d .now) (a .s .now) (a .marks .now) (a .tally) _ (c .measure .result) _ _ _ (rw e at (w .stands)) (rw e at (w .below)) (c .measure .ensures)
+    let a = c .before .before .before .before .before .before .before .before .before .before .before .before .args in
+    let w = c .before .before .before .before .before .before .before .before .before .op-at .ensures .allows (omega (arith, c .before .before .before .before .before .before .before .before .if1 .left)) in
+    let e = is-measure (c .before .before .before .before .before .before .before .before .before .op-at .result) (c .before .before .before .before .before .before .name .result) (c .before .before .before .before .first .result) (c .before .before .before .before .before .before .name .ensures) (c .before .before .before .before .first .ensures) (c .before .before .before .before .before .if2 .taken) in
+    measured-step (a .text .now) (a .at) (a .n) (c .before .before .before .before .first .result) (a .coins .now) (a .d .now) (a .s .now) (a .marks .now) (a .tally) (a .at + c .before .before .before .before .before .before .before .length .result) (c .measure .result) _ _ _ (rw (c .before .before .before .before .before .before .before .length .ensures) (rw e at (w .stands))) (rw e at (w .below)) (c .measure .ensures)
 
 apply-requires : tie.Need-apply-requires
 apply-requires c κs =
-    let a = c .before .before .before .before .before .before .before .args in
-    let code = c .before .before .before .before .op-at .result in
-    let w = c .before .before .before .before .op-at .ensures .allows (omega (arith, c .before .before .before .if1 .left)) in
-    (c .before .before .before .before .before .before .before .pre .d-words, c .before .before .before .before .before .before .before .pre .s-words, valid-op 64 (op-in code) (below-more (a .n) 64 (op-in code) (c .before .before .before .before .before .before .before .pre .qubits) (w .below)) (w .parted), c .before .before .if2 .left)
+    let a = c .before .before .before .before .before .before .before .before .before .args in
+    let code = c .before .before .before .before .before .before .op-at .result in
+    let w = c .before .before .before .before .before .before .op-at .ensures .allows (omega (arith, c .before .before .before .before .before .if1 .left)) in
+    (c .before .before .before .before .before .before .before .before .before .pre .d-words, c .before .before .before .before .before .before .before .before .before .pre .s-words, valid-op 64 (op-in code) (below-more (a .n) 64 (op-in code) (c .before .before .before .before .before .before .before .before .before .pre .qubits) (w .below)) (w .parted), λ e. c .before .before .if2 .left (c .before .before .before .name .ensures ∙ e))
 
 returns-3 : tie.Need-returns-3
 returns-3 c =
-    let a = c .before .before .before .before .before .before .before .before .args in
-    applied-step (a .text .now) (a .at) (a .n) (c .before .before .before .before .before .op-at .result) _ (a .coins .now) (a .d .now) (a .s .now) (a .marks .now) (a .tally) _ _ (c .before .before .before .before .before .before .before .before .pre .qubits) (c .before .before .before .before .before .op-at .ensures .allows (omega (arith, c .before .before .before .before .if1 .left))) refl (c .apply .ensures)
+    let a = c .before .before .before .before .before .before .before .before .before .before .args in
+    applied-step (a .text .now) (a .at) (a .n) (c .before .before .before .before .before .before .before .op-at .result) _ (a .coins .now) (a .d .now) (a .s .now) (a .marks .now) (a .tally) _ _ (c .before .before .before .before .before .before .before .before .before .before .pre .qubits) (c .before .before .before .before .before .before .before .op-at .ensures .allows (omega (arith, c .before .before .before .before .before .before .if1 .left))) (ap (λ (k : ℕ). a .at + k) (c .before .before .before .before .before .length .ensures)) (c .apply .ensures)
 
 pub turn-spec : {M : Type 1} → statement M
 turn-spec =
     tie.close
-    (tie.spec op-at-requires returns add-next measure-requires returns-2 apply-requires returns-3)
+    (tie.spec
+    op-at-requires
+    returns
+    length-requires
+    add-next
+    name-requires
+    first-requires
+    measure-requires
+    returns-2
+    apply-requires
+    returns-3)
