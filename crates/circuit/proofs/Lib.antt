@@ -1,11 +1,6 @@
 pub mod Positions
 pub mod Names
 pub mod Readings
+pub mod Headers
 pub mod Digits
 pub mod Walk
-pub mod Counting
-pub mod Meant
-pub mod OneAnswer
-pub mod Codes
-pub mod Bounds
-pub mod UsualLines

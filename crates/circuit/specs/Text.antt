@@ -2,7 +2,7 @@
 use mathlib.Core.Bool.{Bool, true, false, _&&_, not}
 use mathlib.Core.List.{List, [], _∷_}
 use mathlib.Core.Option.{none, some}
-use Prim.Native.Nat.{ℕ, zero, suc}
+use Prim.Native.Nat.{ℕ, zero, suc, _+_}
 use lib.Dec.{eqb, leb, ltb}
 use Rattle.answers.specs.Verdict.{Verdict, accepted, refused, then, unless}
 use Rattle.clifford.specs.declared.Gate.the-variants.{One as one, Two as two}
@@ -63,3 +63,12 @@ meaning s =
       | found n rest ↦ unless (leb 1 n && leb n most-qubits) 2 1 (then (operations n most-operations 2 rest) (λ ops. accepted (record { qubits = n; ops = ops })))
       | malformed ↦ refused 1 1
     ]
+
+-- 1 for a measurement, 0 for a gate
+abbrev pub measures : Op → ℕ
+measures (apply g) = 0
+measures (measure a) = 1
+
+abbrev pub count-measured : List Op → ℕ
+count-measured [] = 0
+count-measured (op ∷ ops) = measures op + count-measured ops

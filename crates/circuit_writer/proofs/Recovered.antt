@@ -19,7 +19,7 @@ use Rattle.circuit.specs.Lines.{Found, found, malformed, then-read, strip, clos
 use Rattle.circuit.specs.Text.{Circuit, ends, operations, header, meaning}
 use Rattle.circuit.proofs.Readings.{closing, spacing}
 use Rattle.circuit.proofs.Walk.{ends-or-not, next-line, no-more}
-use Rattle.circuit.proofs.Meant.{parts}
+use Rattle.checking.proofs.Meant.{parts}
 use Rattle.circuit_writer.specs.Writing.{decimal, name-text, qubit-text, qubits-text, line-text, header-text, lines-text, circuit-text, Small}
 use Rattle.circuit_writer.proofs.Numerals.{same-found, number-read}
 

@@ -19,7 +19,7 @@ use Rattle.clifford.specs.Run.{Valid, All-valid}
 use Rattle.circuit.specs.Lines.{found, is-digit, digits, number, with-one, with-two, qubits, named, names, op-line}
 use Rattle.circuit.specs.Text.{Circuit, all-below, apart, checked, ends, operations, header, meaning}
 use Rattle.circuit.proofs.Digits.{digits-more, number-starts}
-use Rattle.circuit.proofs.Meant.{meaning-read}
+use Rattle.checking.proofs.Meant.{meaning-read}
 use Rattle.circuit.proofs.Walk.{after-line, operations-suc, operations-end}
 use Rattle.circuit_writer.specs.Writing.{decimal, one-letter, two-letter, qubit-text, line-text, header-text, lines-text, circuit-text, Small}
 use Rattle.circuit_writer.proofs.Storing.{decimal-one, decimal-two, decimal-three}

@@ -5,21 +5,21 @@ ghost use mathlib.Core.Path.{_≡_};
 ghost use Rattle.answers.specs.Refusals.{Writes};
 ghost use Rattle.archive.specs.Copy.{copy-of};
 ghost use Rattle.archive.specs.Same.{same-of, told-same};
-ghost use Rattle.circuit.specs.Promises.{check-of, told-check};
+ghost use Rattle.checking.specs.Promises.{check-of, told-check};
 ghost use Rattle.patch.specs.Patch.{patch-of};
 ghost use Rattle.product.specs.Product.{product-of};
 ghost use Rattle.reading.specs.Answer.{Hands, Reads};
 ghost use Rattle.run.specs.Run.{Runs};
 use answers::Written;
 use archive::Same;
-use circuit::Checked;
+use checking::Checked;
 use reading::Sheet;
 
 // n and the number of operations of a circuit text, or one of the refusals 1 to 6 with its line.
 pub fn check(circuit: &[u8]) -> Checked
     ensures { λ r. ⌜ told-check r ≡ check-of (now (circuit .entry)) ⌝ }
 {
-    circuit::check(circuit)
+    checking::check(circuit)
 }
 
 // Runs a circuit with lent coins and writes its record at the buffer's front. The answer: number, place, the record's length, how many were measured, random and

@@ -12,9 +12,9 @@ use Rattle.clifford.specs.declared.Op.{Op}
 use Rattle.clifford.specs.declared.Op.the-variants.{Gate as apply, Measure as measure}
 use Rattle.clifford.specs.Measurement.{random-row}
 use Rattle.clifford.specs.Run.{State, settle, step, run}
-use Rattle.circuit.specs.Text.{Circuit, meaning}
-use Rattle.circuit.specs.Promises.{count-measured, Accepts}
-use Rattle.circuit.proofs.Meant.{parts}
+use Rattle.circuit.specs.Text.{Circuit, meaning, count-measured}
+use Rattle.checking.specs.Promises.{Accepts}
+use Rattle.checking.proofs.Meant.{parts}
 use Rattle.records.specs.Record.{mark, rows-text, trailer, record-with, record-of, record-length}
 use Rattle.records.proofs.Lengths.{square-below}
 use Rattle.run.specs.Run.{Sheet, begin, sheet, run-circuit, run-of, numbers, buffer-after, Runs}

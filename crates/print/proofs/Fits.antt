@@ -17,7 +17,7 @@ use Rattle.clifford.specs.Tableau.{Rows}
 use Rattle.clifford.specs.Measurement.{Outcome}
 use Rattle.clifford.specs.Run.{State, run, All-valid}
 use Rattle.circuit.specs.Text.{Circuit, meaning}
-use Rattle.circuit.proofs.Meant.{parts}
+use Rattle.checking.proofs.Meant.{parts}
 use Rattle.records.specs.Record.{joined}
 use Rattle.records.proofs.Lengths.{length-row-text, length-joined}
 use Rattle.run.specs.Run.{begin}

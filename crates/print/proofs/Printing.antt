@@ -13,8 +13,7 @@ use Rattle.clifford.specs.declared.Op.the-variants.{Gate as apply, Measure as m
 use Rattle.clifford.specs.Measurement.{Outcome}
 use Rattle.circuit.specs.Lines.{op-line, malformed}
 use Rattle.circuit.specs.Reading.{Stands}
-use Rattle.circuit.specs.Text.{operations, most-operations}
-use Rattle.circuit.specs.Promises.{measures, count-measured}
+use Rattle.circuit.specs.Text.{operations, most-operations, measures, count-measured}
 use Rattle.circuit.proofs.Positions.{front}
 use Rattle.circuit.proofs.Walk.{next-at, never-malformed, none-left, within-room}
 use Rattle.circuit_writer.specs.Writing.{Stores}

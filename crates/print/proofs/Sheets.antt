@@ -13,7 +13,7 @@ use Rattle.clifford.specs.declared.Op.{Op}
 use Rattle.clifford.specs.declared.Op.the-variants.{Gate as apply, Measure as measure}
 use Rattle.clifford.specs.Tableau.{Rows}
 use Rattle.clifford.specs.Measurement.{Outcome}
-use Rattle.circuit.specs.Promises.{count-measured}
+use Rattle.circuit.specs.Text.{count-measured}
 use Rattle.records.specs.Record.{mark, mark-of, joined, rows-text}
 use Rattle.records.proofs.Joined.{listed-split, joined-append, block}
 use Rattle.records.proofs.Lengths.{length-row-text, length-joined}

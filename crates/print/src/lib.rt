@@ -5,15 +5,15 @@ ghost use Prim.Native.Nat.{_+_, _≤_};
 ghost use lib.ListN.{length};
 ghost use Rattle.answers.specs.Verdict.{accepted};
 ghost use Rattle.answers.specs.Refusals.{Writes};
-ghost use Rattle.circuit.specs.Promises.{measures};
+ghost use Rattle.circuit.specs.Text.{measures};
 ghost use Rattle.circuit_writer.specs.Writing.{Stores};
 ghost use Rattle.run.specs.Walk.{lines-of};
 ghost use Rattle.print.specs.Printed.{printed, too-long, shot-printed};
 ghost use Rattle.print.specs.Sheets.{outcome-of, op-text, sheet-lines, Ready, ReadyAs, shape-lines, Answered, Split};
 use answers::Refusal;
 use answers::Written;
+use checking::Scanned;
 use circuit::Line;
-use circuit::Scanned;
 use clifford::Op;
 
 // How a run ended: its record is there, and its circuit's operation lines begin at body; or number and place of its refusal.
@@ -83,7 +83,7 @@ fn answered(text: &[u8], coins: &[u8], sheet: &mut [u8]) -> Shape
     requires { ⌜ 12428 ≤ length (now sheet) ⌝ }
     ensures { λ r. ⌜ Answered (now (text .entry)) (now (coins .entry)) r (now (sheet .exit)) ⌝ }
 {
-    match circuit::scan(text) {
+    match checking::scan(text) {
         Scanned::Circuit {
             qubits,
             operations: _,

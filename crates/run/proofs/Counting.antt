@@ -12,7 +12,7 @@ use Rattle.clifford.specs.declared.Op.the-variants.{Gate as apply, Measure as m
 use Rattle.clifford.specs.Tableau.{gated}
 use Rattle.clifford.specs.Measurement.{random-row, collapsed, fixed-value, Outcome}
 use Rattle.clifford.specs.Run.{State, coin, settle, step, run}
-use Rattle.circuit.specs.Promises.{measures, count-measured}
+use Rattle.circuit.specs.Text.{measures, count-measured}
 use Rattle.circuit.proofs.Walk.{then-accepted}
 
 pub measures-one : (op : Op) → measures op ≤ 1

@@ -18,8 +18,7 @@ use Rattle.clifford.specs.Measurement.{Outcome}
 use Rattle.clifford.specs.Run.{State, coin, run}
 use Rattle.clifford.proofs.Alike.{Row-alike, Rows-alike, Outcome-alike, Bits-alike, All-alike, done, more, Coin-alike, State-alike, Alike, all-refused, all-accepted, alike-run}
 use Rattle.words.proofs.BitLaws.{bit-low, bit-xor}
-use Rattle.circuit.specs.Text.{Circuit, meaning}
-use Rattle.circuit.specs.Promises.{count-measured}
+use Rattle.circuit.specs.Text.{Circuit, meaning, count-measured}
 use Rattle.records.specs.Record.{mark, record-of, record-length}
 use Rattle.records.proofs.Lengths.{length-record}
 use Rattle.tally.specs.declared.Tally.{Tally}

@@ -12,10 +12,9 @@ use Rattle.clifford.specs.Tableau.{Paired, start}
 use Rattle.clifford.specs.Run.{State, run, All-valid}
 use Rattle.clifford.proofs.Start.{start-paired}
 use Rattle.clifford.proofs.Running.{Good, run-good, Reached, every-prefix}
-use Rattle.circuit.specs.Text.{Circuit, meaning}
-use Rattle.circuit.specs.Promises.{count-measured, measures}
+use Rattle.circuit.specs.Text.{Circuit, meaning, count-measured, measures}
 use Rattle.circuit.proofs.Walk.{then-accepted, unless-passed}
-use Rattle.circuit.proofs.Meant.{parts}
+use Rattle.checking.proofs.Meant.{parts}
 use Rattle.records.specs.Record.{mark, record-of, record-length}
 use Rattle.records.specs.Reading.{Read, read-of}
 use Rattle.records.proofs.Lengths.{length-record}

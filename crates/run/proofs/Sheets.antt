@@ -13,10 +13,10 @@ use Rattle.answers.specs.Refusals.{numberOf, placeOf}
 use Rattle.clifford.specs.declared.Op.{Op}
 use Rattle.clifford.specs.Tableau.{Rows, start}
 use Rattle.clifford.specs.Run.{State, run}
-use Rattle.circuit.specs.Text.{Circuit, meaning, operations}
+use Rattle.circuit.specs.Text.{Circuit, meaning, operations, count-measured}
 use Rattle.circuit.specs.Lines.{Found, found}
-use Rattle.circuit.specs.Promises.{count-measured, counts, Headed, Accepts}
-use Rattle.circuit.proofs.Meant.{lines-counted, parts}
+use Rattle.checking.specs.Promises.{counts, Headed, Accepts}
+use Rattle.checking.proofs.Meant.{lines-counted, parts}
 use Rattle.packing.specs.View.{rows-of}
 use Rattle.tableau.specs.declared.Tableau.{Tableau}
 use Rattle.tableau.specs.View.{rows}

@@ -26,8 +26,8 @@ use Rattle.run.specs.Run.{begin}
 use Rattle.circuit.specs.Lines.{op-line}
 use Rattle.circuit.specs.Reading.{Stands}
 use Rattle.circuit.specs.Text.{all-below}
-use Rattle.circuit.specs.Coded.{op-in, length-in, Allowed}
-use Rattle.circuit.proofs.Codes.{allowed-valid}
+use Rattle.coded.specs.Coded.{op-in, length-in, Allowed}
+use Rattle.coded.proofs.Codes.{allowed-valid}
 use Rattle.run.specs.declared.Step.{Step}
 use Rattle.run.specs.declared.Step.the-variants as steps
 use Rattle.run.specs.Walk.{Fixed, Random, Dry, View, Went, Goes, MeasureAs, Applies, StepAs}

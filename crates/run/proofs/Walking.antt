@@ -13,7 +13,7 @@ use Rattle.circuit.specs.Lines.{op-line}
 use Rattle.circuit.specs.Reading.{Stands}
 use Rattle.circuit.specs.Text.{operations, most-operations}
 use Rattle.circuit.proofs.Positions.{front, past}
-use Rattle.circuit.proofs.Counting.{then-then}
+use Rattle.checking.proofs.Counting.{then-then}
 use Rattle.circuit.proofs.Walk.{then-accepted, allowed-line, operations-end, next-line, next-at}
 use Rattle.tally.specs.declared.Tally.{Tally}
 use Rattle.run.specs.Run.{begin}

@@ -7,8 +7,7 @@ use lib.ListN.{length}
 use Rattle.answers.specs.Verdict.{Verdict, accepted, refused, then, unless, over}
 use Rattle.clifford.specs.Tableau.{start}
 use Rattle.clifford.specs.Run.{State, run}
-use Rattle.circuit.specs.Text.{Circuit, meaning}
-use Rattle.circuit.specs.Promises.{count-measured}
+use Rattle.circuit.specs.Text.{Circuit, meaning, count-measured}
 use Rattle.records.specs.Record.{record-of, record-length}
 use Rattle.tally.specs.declared.Tally.{Tally}
 use Rattle.tally.specs.Tally.{none-yet, tallied}

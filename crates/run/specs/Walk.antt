@@ -16,9 +16,8 @@ use Rattle.clifford.specs.Measurement.{random-row, collapsed, fixed-value}
 use Rattle.clifford.specs.Run.{State, coin, step, run}
 use Rattle.circuit.specs.Lines.{op-line}
 use Rattle.circuit.specs.Reading.{Stands}
-use Rattle.circuit.specs.Text.{all-below, apart, operations, meaning, most-operations}
-use Rattle.circuit.specs.Coded.{op-in}
-use Rattle.circuit.specs.Promises.{count-measured}
+use Rattle.circuit.specs.Text.{all-below, apart, operations, meaning, most-operations, count-measured}
+use Rattle.coded.specs.Coded.{op-in}
 use Rattle.packing.specs.View.{Words, rows-of}
 use Rattle.columns.specs.Gated.{Gated}
 use Rattle.records.specs.Record.{mark, record-length}

@@ -7,15 +7,15 @@ ghost use lib.ListN.{length, drop};
 ghost use Rattle.answers.specs.Refusals.{numberOf, placeOf};
 ghost use Rattle.answers.specs.Verdict.{refused};
 ghost use Rattle.clifford.specs.Run.{Valid};
-ghost use Rattle.circuit.specs.Coded.{op-in, name-in};
-ghost use Rattle.circuit.specs.Promises.{Headed};
+ghost use Rattle.coded.specs.Coded.{op-in, name-in};
+ghost use Rattle.checking.specs.Promises.{Headed};
 ghost use Rattle.packing.specs.View.{Words, rows-of};
 ghost use Rattle.records.specs.Record.{mark-of};
 ghost use Rattle.run.specs.Run.{Runs};
 ghost use Rattle.run.specs.Walk.{ShotAs, Room, MeasureAs, Applies, StepAs, Walkable, WalkAs, judgement, RanAs};
 use answers::Refusal;
-use circuit::Heading;
-use circuit::Scanned;
+use checking::Heading;
+use checking::Scanned;
 use columns::Found;
 use tableau::Tableau;
 use tally::Tally;
@@ -102,9 +102,9 @@ fn apply(d: &mut [u64; 129], s: &mut [u64; 129], code: usize)
     requires { ⌜ Words (now d) × Words (now s) × Valid 64 (op-in code) × (name-in code ≡ 77 → ⊥) ⌝ }
     ensures { λ _. ⌜ Applies code (now (d .entry)) (now (s .entry)) (now (d .exit)) (now (s .exit)) ⌝ }
 {
-    let name = circuit::code::name(code);
-    let a = circuit::code::first(code);
-    let b = circuit::code::second(code);
+    let name = coded::code::name(code);
+    let a = coded::code::first(code);
+    let b = coded::code::second(code);
     if name == 1 {
         columns::cx(d, a, b);
         columns::cx(s, a, b);
@@ -132,13 +132,13 @@ fn turn(
     requires { ⌜ Room n (now coins) (now d) (now s) (now marks) tally ⌝ }
     ensures { λ r. ⌜ StepAs (now (text .entry)) at n (now (coins .entry)) (now (d .entry)) (now (s .entry)) (now (marks .entry)) tally r (now (d .exit)) (now (s .exit)) (now (marks .exit)) ⌝ }
 {
-    let code = circuit::op_at(text, at, n);
+    let code = coded::op_at(text, at, n);
     if code == 0 {
         return Step::Refused;
     }
-    let next = at + circuit::code::length(code);
-    if circuit::code::name(code) == 77 {
-        let a = circuit::code::first(code);
+    let next = at + coded::code::length(code);
+    if coded::code::name(code) == 77 {
+        let a = coded::code::first(code);
         return measure(d, s, marks, n, a, coins, tally, next);
     }
     apply(d, s, code);
@@ -195,7 +195,7 @@ fn walk(
 fn judged(text: &[u8], line: usize, room: usize) -> Refusal
     ensures { λ r. ⌜ judgement (now (text .entry)) line room ≡ refused (numberOf r) (placeOf r) ⌝ }
 {
-    match circuit::scan(text) {
+    match checking::scan(text) {
         Scanned::Circuit {
             qubits,
             operations: _,
@@ -241,7 +241,7 @@ fn play(text: &[u8], body: usize, n: usize, coins: &[u8], record: &mut [u8]) -> 
 fn simulate(text: &[u8], coins: &[u8], record: &mut [u8]) -> Ran
     ensures { λ r. ⌜ RanAs (now (text .entry)) (now (coins .entry)) (now («record» .entry)) r (now («record» .exit)) ⌝ }
 {
-    match circuit::head(text) {
+    match checking::head(text) {
         Heading::Qubits(qubits, body) => play(text, body, qubits, coins, record),
         Heading::Refused(r) => Ran::Refused(r),
     }

@@ -8,7 +8,7 @@ use lib.Seq.{length-take-le}
 use Rattle.answers.specs.declared.Written.{Written}
 use Rattle.answers.specs.Verdict.{Verdict, accepted, refused, then, within, after, counted}
 use Rattle.answers.specs.Refusals.{told, Writes}
-use Rattle.circuit.specs.Promises.{Size}
+use Rattle.checking.specs.Promises.{Size}
 use Rattle.records.specs.Reading.{Read, read-of}
 use Rattle.run.specs.Run.{Sheet, run-of, numbers, rest-of, Runs}
 use Rattle.senghovai.specs.Exports.{number-of, check-places, run-places, Ran, read-places, write-places, Wrote}

@@ -7,7 +7,7 @@ use Prim.Native.Nat.{ℕ, _-_}
 use lib.ListN.{length}
 use Rattle.answers.specs.Verdict.{Verdict, accepted, refused, then, within, after, counted}
 use Rattle.archive.specs.Same.{Compared, compared, first-refused, second-refused}
-use Rattle.circuit.specs.Promises.{Size}
+use Rattle.checking.specs.Promises.{Size}
 use Rattle.records.specs.Reading.{Read}
 use Rattle.run.specs.Run.{Sheet, run-of, buffer-after}
 

@@ -3,7 +3,7 @@
 ghost use mathlib.Core.Path.{_≡_};
 ghost use Rattle.archive.specs.Copy.{copy-of};
 ghost use Rattle.archive.specs.Same.{same-of};
-ghost use Rattle.circuit.specs.Promises.{check-of};
+ghost use Rattle.checking.specs.Promises.{check-of};
 ghost use Rattle.patch.specs.Patch.{patch-of};
 ghost use Rattle.product.specs.Product.{product-of};
 ghost use Rattle.records.specs.Reading.{read-of};
@@ -11,7 +11,7 @@ ghost use Rattle.senghovai.specs.Exports.{number-of, check-places, Ran, 
 ghost use Rattle.answers.specs.Refusals.{told};
 use answers::Written;
 use archive::Same;
-use circuit::Checked;
+use checking::Checked;
 use reading::Found;
 
 #[no_mangle]

@@ -7,8 +7,8 @@ use lib.ListN.{length, getD, take, replicate}
 use Rattle.answers.specs.declared.Written.{Written}
 use Rattle.answers.specs.Verdict.{Verdict, accepted, refused}
 use Rattle.answers.specs.Refusals.{told, Writes}
-use Rattle.circuit.specs.declared.Checked.{Checked}
-use Rattle.circuit.specs.Promises.{Size, told-check, check-of}
+use Rattle.checking.specs.declared.Checked.{Checked}
+use Rattle.checking.specs.Promises.{Size, told-check, check-of}
 use Rattle.pauli.specs.Texts.{listed}
 use Rattle.product.specs.Product.{product-of}
 use Rattle.records.specs.Record.{low-first, joined, rows-text, trailer, record-with}

@@ -1,5 +1,5 @@
 // Checks the circuit in the file that the first word names, and prints its number of qubits and of operations, or the refusal.
-use circuit::Checked;
+use checking::Checked;
 
 fn check(text: &[u8]) {
     match library::check(text) {

@@ -1,7 +1,7 @@
 //! The fixed sweeps over sizes: records and runs of every n from 1 to 64,
 //! circuits of 4,096 and 4,097 operations, records with the most outcomes,
 //! buffers around the needed length, and runs that lack a coin early, midway
-//! and at the end.
+//! and at the end, or before a line that is refused.
 
 use crate::circuit::{Operation, MOST_OPERATIONS};
 use crate::damage;
@@ -21,7 +21,8 @@ pub fn all(write: Write) -> io::Result<()> {
     most_outcomes(write)?;
     distances(write)?;
     long_archive(write)?;
-    lacking_coins(write)
+    lacking_coins(write)?;
+    refused_without_coins(write)
 }
 
 fn every_n(write: Write) -> io::Result<()> {
@@ -144,6 +145,19 @@ fn lacking_coins(write: Write) -> io::Result<()> {
             let needed = record::distance_to_rows(n) + 16;
             write(Case::Run(make::text(n, &operations), coins.clone(), needed))?;
             write(Case::Run(make::text(n, &operations), coins, needed - 1))?;
+        }
+    }
+    Ok(())
+}
+
+/// A measurement without a coin, and behind it lines that are refused, or too many, or a buffer that is too short.
+fn refused_without_coins(write: Write) -> io::Result<()> {
+    let dry = "Q 2\nH 0\nM 0\n".to_string();
+    let most = "H 1\n".repeat(MOST_OPERATIONS - 2);
+    let lines = ["", "H 1\n", "M 1\n", "H 2\n", "CX 1 1\n", "h 0\n", "H 0", &most, &(most.clone() + "H 1\n"), &(most.clone() + "h")];
+    for line in lines {
+        for lent in [0, 24, 25, 26] {
+            write(Case::Run((dry.clone() + line).into_bytes(), vec![], lent))?;
         }
     }
     Ok(())

@@ -18,6 +18,7 @@ type Write<'a> = &'a mut dyn FnMut(Case) -> io::Result<()>;
 
 pub fn all(write: Write) -> io::Result<()> {
     bytes_of_lines(write)?;
+    bytes_before_lines(write)?;
     bytes_of_records(write)?;
     bytes_of_rows(write)?;
     parts_of_records(write)?;
@@ -68,6 +69,22 @@ fn bytes_of_lines(write: Write) -> io::Result<()> {
     }
     for line in every_byte(b"CZ 1 0\n") {
         write(Case::Patch(pair_record(), line, 26))?;
+    }
+    Ok(())
+}
+
+/// The same of lines far from the end of the text, with numbers of one digit and of two.
+fn bytes_before_lines(write: Write) -> io::Result<()> {
+    let behind = b"H 0\nCZ 0 1\nM 1\n";
+    for line in [&b"CX 10 63\n"[..], b"CZ 9 10\n", b"CX 7 0\n"] {
+        for changed in every_byte(line) {
+            write(Case::Check([b"Q 64\n", &changed[..], behind].concat()))?;
+        }
+    }
+    for line in [&b"S 11\n"[..], b"M 0\n"] {
+        for changed in every_byte(line) {
+            write(Case::Run([b"Q 12\n", &changed[..], behind].concat(), vec![1], 327))?;
+        }
     }
     Ok(())
 }

@@ -2,7 +2,7 @@
 use native.Mathlib.Omega.{arith}
 use borrow.Author.Tests.{not-true, not-false}
 use denote.Ref.{now}
-use Rattle.circuit.proofs.Meant.{no-header, header-read, header-open, header-bare}
+use Rattle.circuit.proofs.Headers.{no-header, header-read, header-open, header-bare}
 use borrow.Author.Needs.{needs}
 use Rattle.circuit.proofs.header_at.Statement.{statement}
 use Rattle.circuit.proofs.header_at.Tie as tie

@@ -1,6 +1,6 @@
 -- `run::apply` meets its contract. Assumes nothing.
 use mathlib.Core.Path.{sym, _∙_}
-use Rattle.circuit.proofs.Codes.{is-cx, is-cz, is-one}
+use Rattle.coded.proofs.Codes.{is-cx, is-cz, is-one}
 use borrow.Author.Needs.{needs}
 use Rattle.run.proofs.apply.Statement.{statement}
 use Rattle.run.proofs.apply.Tie as tie

@@ -1,0 +1,3 @@
+pub mod Codes
+pub mod Bounds
+pub mod UsualLines
