@@ -10,7 +10,7 @@ use Rattle.clifford.specs.declared.Gate.{Gate}
 use Rattle.clifford.specs.declared.Op.{Op}
 use Rattle.clifford.specs.declared.Op.the-variants.{Gate as apply, Measure as measure}
 use Rattle.clifford.specs.Gates.{Fits}
-use Rattle.clifford.specs.Tableau.{Rows, gated}
+use Rattle.clifford.specs.Tableau.{Rows, start, gated}
 use Rattle.clifford.specs.Measurement.{random-row, collapsed, fixed-value, Outcome}
 
 -- only the lowest bit of a coin byte counts
@@ -22,6 +22,10 @@ pub record State : Type 0 where
   pub outcomes : List Outcome
   pub rows : Rows
   pub coins : List ℕ
+
+-- where a run begins
+abbrev pub begin : ℕ → List ℕ → State
+begin n coins = record { outcomes = []; rows = start n; coins = coins }
 
 -- coins are taken in order, one for each random measurement, none for a fixed one
 abbrev pub settle : ℕ → ℕ → ℕ → State → Option ℕ → List ℕ → Verdict State

@@ -11,15 +11,15 @@ use Rattle.answers.specs.Verdict.{Verdict, accepted, refused, then, unless}
 use Rattle.clifford.specs.declared.Op.{Op}
 use Rattle.clifford.specs.declared.Op.the-variants.{Gate as apply, Measure as measure}
 use Rattle.clifford.specs.Measurement.{random-row}
-use Rattle.clifford.specs.Run.{State, settle, step, run}
+use Rattle.clifford.specs.Run.{State, settle, step, run, begin}
 use Rattle.circuit.specs.Text.{Circuit, meaning, count-measured}
 use Rattle.checking.specs.Promises.{Accepts}
 use Rattle.checking.proofs.Meant.{parts}
 use Rattle.records.specs.Record.{mark, rows-text, trailer, record-with, record-of, record-length}
 use Rattle.records.proofs.Lengths.{square-below}
-use Rattle.run.specs.Run.{Sheet, begin, sheet, run-circuit, run-of, numbers, buffer-after, Runs}
-use Rattle.run.specs.Walk.{lines-of, or-none}
-use Rattle.run.proofs.Counting.{run-count}
+use Rattle.run.specs.Run.{Sheet, sheet, run-circuit, run-of, numbers, buffer-after, Runs}
+use Rattle.walking.specs.Walk.{lines-of, or-none}
+use Rattle.walking.proofs.Counting.{run-count}
 use Rattle.run.proofs.Sheets.{may-size}
 use Rattle.lines.specs.Line.{refusal-line}
 use Rattle.print.specs.declared.Shape.the-variants as shape

@@ -15,12 +15,11 @@ use Rattle.clifford.specs.declared.Op.{Op}
 use Rattle.clifford.specs.declared.Op.the-variants.{Gate as apply, Measure as measure}
 use Rattle.clifford.specs.Tableau.{Rows}
 use Rattle.clifford.specs.Measurement.{Outcome}
-use Rattle.clifford.specs.Run.{State, run, All-valid}
+use Rattle.clifford.specs.Run.{State, run, All-valid, begin}
 use Rattle.circuit.specs.Text.{Circuit, meaning}
 use Rattle.checking.proofs.Meant.{parts}
 use Rattle.records.specs.Record.{joined}
 use Rattle.records.proofs.Lengths.{length-row-text, length-joined}
-use Rattle.run.specs.Run.{begin}
 use Rattle.lines.specs.Line.{digits-of, decimal, outcome-line, refused-word, refusal-line}
 use Rattle.lines.proofs.Digits.{digits-few}
 use Rattle.lines.proofs.Putting.{kind-few}

@@ -19,7 +19,7 @@ use Rattle.circuit.proofs.Walk.{next-at, never-malformed, none-left, within-roo
 use Rattle.circuit_writer.specs.Writing.{Stores}
 use Rattle.circuit_writer.proofs.Storing.{stored-then, stored-as}
 use Rattle.records.proofs.Lengths.{square-below}
-use Rattle.run.specs.Walk.{lines-of}
+use Rattle.walking.specs.Walk.{lines-of}
 use Rattle.lines.specs.Line.{spaced, decimal, kind-word, value-word, outcome-line}
 use Rattle.lines.specs.Rows.{parts-closed}
 use Rattle.lines.proofs.Digits.{digits-few}

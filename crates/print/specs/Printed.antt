@@ -11,11 +11,10 @@ use Rattle.clifford.specs.declared.Op.{Op}
 use Rattle.clifford.specs.declared.Op.the-variants.{Gate as apply, Measure as measure}
 use Rattle.clifford.specs.Tableau.{Rows}
 use Rattle.clifford.specs.Measurement.{Outcome}
-use Rattle.clifford.specs.Run.{State, run}
+use Rattle.clifford.specs.Run.{State, run, begin}
 use Rattle.circuit.specs.Lines.{end-byte}
 use Rattle.circuit.specs.Text.{Circuit, meaning}
 use Rattle.records.specs.Record.{joined}
-use Rattle.run.specs.Run.{begin}
 use Rattle.lines.specs.Line.{outcome-line, refusal-line}
 
 -- the operations in order, the first of them on this line: each measurement takes the next outcome

@@ -9,7 +9,7 @@ use Rattle.clifford.specs.declared.Op.{Op}
 use Rattle.clifford.specs.declared.Op.the-variants.{Gate as apply, Measure as measure}
 use Rattle.clifford.specs.Measurement.{Outcome}
 use Rattle.circuit.specs.Text.{operations, most-operations, count-measured}
-use Rattle.run.specs.Walk.{lines-of}
+use Rattle.walking.specs.Walk.{lines-of}
 use Rattle.lines.specs.Line.{outcome-line, refusal-line}
 use Rattle.lines.specs.Rows.{parts-closed}
 use Rattle.print.specs.declared.Shape.{Shape}

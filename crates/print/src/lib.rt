@@ -7,7 +7,7 @@ ghost use Rattle.answers.specs.Verdict.{accepted};
 ghost use Rattle.answers.specs.Refusals.{Writes};
 ghost use Rattle.circuit.specs.Text.{measures};
 ghost use Rattle.circuit_writer.specs.Writing.{Stores};
-ghost use Rattle.run.specs.Walk.{lines-of};
+ghost use Rattle.walking.specs.Walk.{lines-of};
 ghost use Rattle.print.specs.Printed.{printed, too-long, shot-printed};
 ghost use Rattle.print.specs.Sheets.{outcome-of, op-text, sheet-lines, Ready, ReadyAs, shape-lines, Answered, Split};
 use answers::Refusal;

@@ -15,7 +15,7 @@ use Rattle.pauli.specs.Letters.{_⊕_}
 use Rattle.pauli.proofs.Cases.{tested, bit as flag}
 use Rattle.clifford.specs.Tableau.{Rows, start}
 use Rattle.clifford.specs.Measurement.{Outcome}
-use Rattle.clifford.specs.Run.{State, coin, run}
+use Rattle.clifford.specs.Run.{State, coin, run, begin}
 use Rattle.clifford.proofs.Alike.{Row-alike, Rows-alike, Outcome-alike, Bits-alike, All-alike, done, more, Coin-alike, State-alike, Alike, all-refused, all-accepted, alike-run}
 use Rattle.words.proofs.BitLaws.{bit-low, bit-xor}
 use Rattle.circuit.specs.Text.{Circuit, meaning, count-measured}
@@ -23,7 +23,7 @@ use Rattle.records.specs.Record.{mark, record-of, record-length}
 use Rattle.records.proofs.Lengths.{length-record}
 use Rattle.tally.specs.declared.Tally.{Tally}
 use Rattle.tally.specs.Tally.{none-yet, stepped, tallied}
-use Rattle.run.specs.Run.{Sheet, begin, sheet, run-circuit, run-of, numbers, rest-of, buffer-after, Runs}
+use Rattle.run.specs.Run.{Sheet, sheet, run-circuit, run-of, numbers, rest-of, buffer-after, Runs}
 
 -- four records of one circuit: of the same kinds and letters, and in the last each outcome and each row sign is the exclusive-or of the other three
 pub record Records-alike (n : ℕ) (a b c d : List ℕ) : Type 0 where

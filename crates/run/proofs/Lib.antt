@@ -1,7 +1,3 @@
-pub mod Shots
-pub mod Counting
-pub mod Views
-pub mod Walking
 pub mod Sheets
 pub mod Demand3
 pub mod Cleanness

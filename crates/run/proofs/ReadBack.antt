@@ -9,7 +9,7 @@ use lib.ListN.{length, length-map}
 use Rattle.answers.specs.Verdict.{Verdict, accepted, refused, then, unless}
 use Rattle.clifford.specs.declared.Op.{Op}
 use Rattle.clifford.specs.Tableau.{Paired, start}
-use Rattle.clifford.specs.Run.{State, run, All-valid}
+use Rattle.clifford.specs.Run.{State, run, All-valid, begin}
 use Rattle.clifford.proofs.Start.{start-paired}
 use Rattle.clifford.proofs.Running.{Good, run-good, Reached, every-prefix}
 use Rattle.circuit.specs.Text.{Circuit, meaning, count-measured, measures}
@@ -22,9 +22,9 @@ use Rattle.records.proofs.Held.{Clean, Held}
 use Rattle.records.proofs.Outcomes.{outcomes-marked}
 use Rattle.records.proofs.Start.{start-clean}
 use Rattle.records.proofs.Written.{written-reads}
-use Rattle.run.specs.Run.{Sheet, begin, sheet, run-circuit, run-of}
+use Rattle.run.specs.Run.{Sheet, sheet, run-circuit, run-of}
 use Rattle.run.proofs.Cleanness.{Kept, run-clean}
-use Rattle.run.proofs.Counting.{run-count, measures-one}
+use Rattle.walking.proofs.Counting.{run-count, measures-one}
 
 -- the circuit of an accepted run, and the state in which it ended
 pub record Accepted-run (text coins : List ℕ) (s : Sheet) : Type 0 where

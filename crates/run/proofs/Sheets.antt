@@ -12,7 +12,7 @@ use Rattle.answers.specs.Verdict.{Verdict, accepted, refused, then, unless, ove
 use Rattle.answers.specs.Refusals.{numberOf, placeOf}
 use Rattle.clifford.specs.declared.Op.{Op}
 use Rattle.clifford.specs.Tableau.{Rows, start}
-use Rattle.clifford.specs.Run.{State, run}
+use Rattle.clifford.specs.Run.{State, run, begin}
 use Rattle.circuit.specs.Text.{Circuit, meaning, operations, count-measured}
 use Rattle.circuit.specs.Lines.{Found, found}
 use Rattle.checking.specs.Promises.{counts, Headed, Accepts}
@@ -23,9 +23,10 @@ use Rattle.tableau.specs.View.{rows}
 use Rattle.records.specs.Record.{mark, record-with, record-of, record-length}
 use Rattle.records.proofs.Lengths.{length-record}
 use Rattle.tally.specs.declared.Tally.{Tally}
-use Rattle.run.specs.Run.{Sheet, begin, sheet, run-circuit, run-of, numbers, rest-of, buffer-after, Runs}
-use Rattle.run.specs.Walk.{View, lines-of, or-none, Ended, Stuck, judgement, Sheeted}
-use Rattle.run.proofs.Counting.{run-count, measures-one}
+use Rattle.run.specs.Run.{Sheet, sheet, run-circuit, run-of, numbers, rest-of, buffer-after, Runs}
+use Rattle.walking.specs.Walk.{View, lines-of, or-none, Ended, Stuck}
+use Rattle.run.specs.Ran.{judgement, Sheeted}
+use Rattle.walking.proofs.Counting.{run-count, measures-one}
 
 pub start-rows : (t : Tableau) (n : ℕ) → t .n ≡ n → rows t ≡ start n → start n ≡ rows-of n (t .destabilizers) (t .stabilizers)
 unfolding rows

@@ -1,2 +1,2 @@
 pub mod Run
-pub mod Walk
+pub mod Ran

@@ -5,8 +5,7 @@ use Prim.Native.Nat.{ℕ}
 use lib.Dec.{leb}
 use lib.ListN.{length}
 use Rattle.answers.specs.Verdict.{Verdict, accepted, refused, then, unless, over}
-use Rattle.clifford.specs.Tableau.{start}
-use Rattle.clifford.specs.Run.{State, run}
+use Rattle.clifford.specs.Run.{State, begin, run}
 use Rattle.circuit.specs.Text.{Circuit, meaning, count-measured}
 use Rattle.records.specs.Record.{record-of, record-length}
 use Rattle.tally.specs.declared.Tally.{Tally}
@@ -17,10 +16,6 @@ pub record Sheet : Type 0 where
   pub bytes : List ℕ
   pub rest : List ℕ
   pub tally : Tally
-
--- where a run begins
-abbrev pub begin : ℕ → List ℕ → State
-begin n coins = record { outcomes = []; rows = start n; coins = coins }
 
 -- the sheet of a run that has come to its end
 abbrev pub sheet : ℕ → State → Sheet

@@ -1,6 +1,6 @@
 -- `print::put_run` meets its contract. Assumes nothing.
 use mathlib.Core.Path.{_∙_}
-use Rattle.run.proofs.Counting.{measures-one}
+use Rattle.walking.proofs.Counting.{measures-one}
 use borrow.Author.Needs.{needs}
 use native.Mathlib.Omega.{arith}
 use Prim.Native.Nat.{_-_}

@@ -1,8 +1,8 @@
 use mathlib.Core.Path.{refl}
-use Rattle.run.proofs.Views.{went-fixed, went-random, went-dry}
+use Rattle.walking.proofs.Views.{went-fixed, went-random, went-dry}
 use borrow.Author.Needs.{needs}
-use Rattle.run.proofs.measure.Statement.{statement}
-use Rattle.run.proofs.measure.Tie as tie
+use Rattle.walking.proofs.measure.Statement.{statement}
+use Rattle.walking.proofs.measure.Tie as tie
 
 shoot-requires : tie.Need-shoot-requires
 shoot-requires c κs = search needs

@@ -13,7 +13,7 @@ use Rattle.answers.proofs.First.{Answer, lowest-is}
 use Rattle.clifford.specs.Tableau.{Rows}
 use Rattle.clifford.specs.Measurement.{random-row, collapsed, fixed-value}
 use Rattle.clifford.specs.Run.{coin}
-use Rattle.run.specs.Walk.{Fixed, Random, Dry}
+use Rattle.walking.specs.Walk.{Fixed, Random, Dry}
 
 module _ (n a : ℕ) (t : Rows) (coins : List ℕ) (used : ℕ) where
   pub was-dry : (p : ℕ) → some p ≡ random-row n a t → length coins ≤ used → Dry n a t (drop used coins)

@@ -1,9 +1,9 @@
--- `run::apply` meets its contract. Assumes nothing.
+-- `walking::apply` meets its contract. Assumes nothing.
 use mathlib.Core.Path.{sym, _∙_}
 use Rattle.coded.proofs.Codes.{is-cx, is-cz, is-one}
 use borrow.Author.Needs.{needs}
-use Rattle.run.proofs.apply.Statement.{statement}
-use Rattle.run.proofs.apply.Tie as tie
+use Rattle.walking.proofs.apply.Statement.{statement}
+use Rattle.walking.proofs.apply.Tie as tie
 
 name-requires : tie.Need-name-requires
 name-requires c κs = search needs

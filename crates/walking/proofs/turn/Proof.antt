@@ -1,14 +1,14 @@
--- `run::turn` meets its contract. Assumes nothing.
+-- `walking::turn` meets its contract. Assumes nothing.
 use mathlib.Core.Path.{_∙_, ap}
 use Prim.Native.Nat.{ℕ, _+_}
 use native.Mathlib.Omega.{arith}
 use Rattle.coded.specs.Coded.{op-in}
 use Rattle.circuit.proofs.Walk.{valid-op}
 use Rattle.coded.proofs.Codes.{below-more, allowed-valid, is-measure}
-use Rattle.run.proofs.Views.{measured-step, applied-step}
+use Rattle.walking.proofs.Views.{measured-step, applied-step}
 use borrow.Author.Needs.{needs}
-use Rattle.run.proofs.turn.Statement.{statement}
-use Rattle.run.proofs.turn.Tie as tie
+use Rattle.walking.proofs.turn.Statement.{statement}
+use Rattle.walking.proofs.turn.Tie as tie
 
 op-at-requires : tie.Need-op-at-requires
 op-at-requires c κs = search needs

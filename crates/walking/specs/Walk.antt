@@ -1,19 +1,17 @@
--- What the parts of a run promise one another: a measurement, one line, and the walk over all lines. Assumes nothing.
+-- What the parts of a walk over the operation lines promise one another: a measurement, one line, and all lines. Assumes nothing.
 use mathlib.Core.Bool.{Bool, true}
 use mathlib.Core.List.{List, [], _∷_, map}
 use mathlib.Core.Option.{none, some}
 use mathlib.Core.Path.{_≡_}
 use Prim.Native.Nat.{ℕ, _≤_, _<_}
-use lib.Dec.{leb}
 use lib.ListN.{length, take, drop}
-use Rattle.answers.specs.Refusals.{numberOf, placeOf}
-use Rattle.answers.specs.Verdict.{Verdict, accepted, refused, then, unless, over}
+use Rattle.answers.specs.Verdict.{Verdict, accepted, refused}
 use Rattle.clifford.specs.declared.Gate.{Gate}
 use Rattle.clifford.specs.declared.Op.{Op}
 use Rattle.clifford.specs.declared.Op.the-variants.{Gate as apply, Measure as measure}
 use Rattle.clifford.specs.Tableau.{Rows, start}
 use Rattle.clifford.specs.Measurement.{random-row, collapsed, fixed-value}
-use Rattle.clifford.specs.Run.{State, coin, step, run}
+use Rattle.clifford.specs.Run.{State, begin, coin, step, run}
 use Rattle.circuit.specs.Lines.{op-line}
 use Rattle.circuit.specs.Reading.{Stands}
 use Rattle.circuit.specs.Text.{all-below, apart, operations, meaning, most-operations, count-measured}
@@ -21,16 +19,13 @@ use Rattle.coded.specs.Coded.{op-in}
 use Rattle.packing.specs.View.{Words, rows-of}
 use Rattle.columns.specs.Gated.{Gated}
 use Rattle.records.specs.Record.{mark, record-length}
-use Rattle.run.specs.declared.Shot.{Shot}
-use Rattle.run.specs.declared.Shot.the-variants as shot
-use Rattle.run.specs.declared.Step.{Step}
-use Rattle.run.specs.declared.Step.the-variants as steps
-use Rattle.run.specs.declared.Walked.{Walked}
-use Rattle.run.specs.declared.Walked.the-variants as walked
-use Rattle.run.specs.declared.Ran.{Ran}
-use Rattle.run.specs.declared.Ran.the-variants as ran
+use Rattle.walking.specs.declared.Shot.{Shot}
+use Rattle.walking.specs.declared.Shot.the-variants as shot
+use Rattle.walking.specs.declared.Step.{Step}
+use Rattle.walking.specs.declared.Step.the-variants as steps
+use Rattle.walking.specs.declared.Walked.{Walked}
+use Rattle.walking.specs.declared.Walked.the-variants as walked
 use Rattle.tally.specs.declared.Tally.{Tally}
-use Rattle.run.specs.Run.{Sheet, begin, sheet, run-of}
 use Rattle.tally.specs.Tally.{none-yet, tallied}
 
 -- a fixed measurement: no row changes
@@ -153,21 +148,3 @@ pub record Walkable (n : ℕ) (d s marks : List ℕ) : Type 0 where
   pub s-words : Words s
   pub room : length marks ≡ 4096
   pub from-start : start n ≡ rows-of n d s
-
--- what is answered where the run of an accepted text finds no coin on this line
-unfoldable pub judgement : List ℕ → ℕ → ℕ → Verdict Sheet
-judgement text line room = then (meaning text) (λ c. unless (leb (record-length (c .qubits) (count-measured (c .ops))) room) 8 0 (refused 7 line))
-
--- the run was accepted
-pub record Sheeted (text coins old : List ℕ) (size : ℕ) (t : Tally) (new : List ℕ) : Type 0 where
-  pub sheet : Sheet
-  pub is : run-of text coins (length old) ≡ accepted sheet
-  pub size-is : size ≡ length (sheet .bytes)
-  pub tally-is : t ≡ sheet .tally
-  pub rest-is : sheet .rest ≡ drop (t .taken) coins
-  pub enough : t .taken ≤ length coins
-  pub buffer : new ≡ over (sheet .bytes) old
-
-abbrev pub RanAs : List ℕ → List ℕ → List ℕ → Ran → List ℕ → Type 0
-RanAs text coins old (ran.Sheet size t) new = Sheeted text coins old size t new
-RanAs text coins old (ran.Refused r) new = (run-of text coins (length old) ≡ refused (numberOf r) (placeOf r)) × (new ≡ old)

@@ -1,11 +1,11 @@
--- `run::walk` meets its contract. Assumes nothing.
+-- `walking::walk` meets its contract. Assumes nothing.
 use borrow.Author.Needs.{needs}
 use Prim.Native.Nat.{ℕ, _-_, _<_}
 use native.Mathlib.Omega.{arith}
 use lib.ListN.{length}
-use Rattle.run.proofs.Walking.{Walking, walk-begin, walk-room, walk-on, walk-dry, walk-refused, walk-full, walk-end}
-use Rattle.run.proofs.walk.Statement.{statement}
-use Rattle.run.proofs.walk.Tie as tie
+use Rattle.walking.proofs.Walking.{Walking, walk-begin, walk-room, walk-on, walk-dry, walk-refused, walk-full, walk-end}
+use Rattle.walking.proofs.walk.Statement.{statement}
+use Rattle.walking.proofs.walk.Tie as tie
 
 abbrev Inv-loop : tie.InvT-loop
 Inv-loop text body d₀ s₀ marks₀ n coins tally₀ at₀ line₀ d s marks tally at line = Walking text body n coins d s marks tally at line

@@ -15,22 +15,21 @@ use Rattle.clifford.specs.declared.Op.the-variants.{Gate as apply, Measure as m
 use Rattle.clifford.specs.Gates.{Fits}
 use Rattle.clifford.specs.Tableau.{Rows, gated, start}
 use Rattle.clifford.specs.Measurement.{random-row, collapsed, fixed-value, Outcome}
-use Rattle.clifford.specs.Run.{State, coin, settle, step}
+use Rattle.clifford.specs.Run.{State, coin, settle, step, begin}
 use Rattle.packing.specs.View.{Words, rows-of}
 use Rattle.columns.specs.Gated.{Gated}
 use Rattle.tableau.proofs.Gated.{gated-both}
 use Rattle.records.specs.Record.{mark, mark-of}
 use Rattle.tally.specs.declared.Tally.{Tally}
 use Rattle.tally.specs.Tally.{none-yet, one-if, stepped, tallied}
-use Rattle.run.specs.Run.{begin}
 use Rattle.circuit.specs.Lines.{op-line}
 use Rattle.circuit.specs.Reading.{Stands}
 use Rattle.circuit.specs.Text.{all-below}
 use Rattle.coded.specs.Coded.{op-in, length-in, Allowed}
 use Rattle.coded.proofs.Codes.{allowed-valid}
-use Rattle.run.specs.declared.Step.{Step}
-use Rattle.run.specs.declared.Step.the-variants as steps
-use Rattle.run.specs.Walk.{Fixed, Random, Dry, View, Went, Goes, MeasureAs, Applies, StepAs}
+use Rattle.walking.specs.declared.Step.{Step}
+use Rattle.walking.specs.declared.Step.the-variants as steps
+use Rattle.walking.specs.Walk.{Fixed, Random, Dry, View, Went, Goes, MeasureAs, Applies, StepAs}
 use Rattle.tally.proofs.Tallies.{tallied-more}
 
 pub view-begin : (n : ℕ) (coins d s marks : List ℕ) → Words d → Words s → length marks ≡ 4096 → start n ≡ rows-of n d s → View n coins (begin n coins) d s marks none-yet

@@ -1,10 +1,10 @@
 use mathlib.Core.Path.{_≡_, refl, sym}
 use Rattle.answers.proofs.First.{lowest-below}
 use Rattle.packing.specs.View.{rows-of}
-use Rattle.run.proofs.Shots.{was-dry, was-random}
+use Rattle.walking.proofs.Shots.{was-dry, was-random}
 use borrow.Author.Needs.{needs}
-use Rattle.run.proofs.shoot.Statement.{statement}
-use Rattle.run.proofs.shoot.Tie as tie
+use Rattle.walking.proofs.shoot.Statement.{statement}
+use Rattle.walking.proofs.shoot.Tie as tie
 
 random-row-requires : tie.Need-random-row-requires
 random-row-requires c κs = search needs

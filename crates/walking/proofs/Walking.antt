@@ -8,7 +8,7 @@ use native.Mathlib.Omega.{arith}
 use lib.ListN.{length, drop}
 use Rattle.answers.specs.Verdict.{Verdict, accepted, refused, then}
 use Rattle.clifford.specs.declared.Op.{Op}
-use Rattle.clifford.specs.Run.{State, step, run}
+use Rattle.clifford.specs.Run.{State, step, run, begin}
 use Rattle.circuit.specs.Lines.{op-line}
 use Rattle.circuit.specs.Reading.{Stands}
 use Rattle.circuit.specs.Text.{operations, most-operations}
@@ -16,12 +16,11 @@ use Rattle.circuit.proofs.Positions.{front, past}
 use Rattle.checking.proofs.Counting.{then-then}
 use Rattle.circuit.proofs.Walk.{then-accepted, allowed-line, operations-end, next-line, next-at}
 use Rattle.tally.specs.declared.Tally.{Tally}
-use Rattle.run.specs.Run.{begin}
 use Rattle.tally.specs.Tally.{none-yet}
-use Rattle.run.specs.Walk.{View, Went, Goes, Stops, Room, lines-of, or-none, Ended, Stuck, Walkable}
+use Rattle.walking.specs.Walk.{View, Went, Goes, Stops, Room, lines-of, or-none, Ended, Stuck, Walkable}
 use Rattle.tally.proofs.Tallies.{Tied, tally-tied, randoms, randoms-within}
-use Rattle.run.proofs.Counting.{step-count, measures-one}
-use Rattle.run.proofs.Views.{view-begin}
+use Rattle.walking.proofs.Counting.{step-count, measures-one}
+use Rattle.walking.proofs.Views.{view-begin}
 
 -- the operations done so far, the state they led to, and that what the text is worth depends on the lines from here on
 pub record Walking (text : List ℕ) (body n : ℕ) (coins d s marks : List ℕ) (t : Tally) (at line : ℕ) : Type 0 where

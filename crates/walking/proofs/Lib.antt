@@ -1,0 +1,4 @@
+pub mod Shots
+pub mod Counting
+pub mod Views
+pub mod Walking

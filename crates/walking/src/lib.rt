@@ -1,0 +1,183 @@
+// The walk over the operation lines of a text on lent coins: they are read and run one by one over the packed tableau, each outcome a character in a
+// lent array. A line that is refused, or finds no coin, stops the walk.
+ghost use mathlib.Core.Path.{_≡_};
+ghost use Prim.Native.Nat.{_≤_, _<_};
+ghost use lib.ListN.{length, drop};
+ghost use Rattle.clifford.specs.Run.{Valid};
+ghost use Rattle.coded.specs.Coded.{op-in, name-in};
+ghost use Rattle.packing.specs.View.{Words, rows-of};
+ghost use Rattle.records.specs.Record.{mark-of};
+ghost use Rattle.walking.specs.Walk.{ShotAs, Room, MeasureAs, Applies, StepAs, Walkable, WalkAs};
+use columns::Found;
+use tally::Tally;
+
+// What a measurement answers: its value, or that it is random and finds no coin.
+enum Shot {
+    Fixed(bool),
+    Random(bool),
+    NoCoin,
+}
+
+fn shoot(
+    d: &mut [u64; 129],
+    s: &mut [u64; 129],
+    n: usize,
+    a: usize,
+    coins: &[u8],
+    used: usize,
+) -> Shot
+    requires { ⌜ Words (now d) × Words (now s) × (n ≤ 64) × (a < n) × (used ≤ length (now coins)) ⌝ }
+    ensures { λ r. ⌜ Words (now (d .exit)) × Words (now (s .exit)) × ShotAs n a (rows-of n (now (d .entry)) (now (s .entry))) (drop used (now (coins .entry))) r (rows-of n (now (d .exit)) (now (s .exit))) ⌝ }
+{
+    match columns::random_row(s, n, a) {
+        Found::Nothing => Shot::Fixed(ordered::fixed_value(d, s, n, a)),
+        Found::At(p) => {
+            if coins.len() <= used {
+                return Shot::NoCoin;
+            }
+            let coin = coins[used] % 2 == 1;
+            collapse::collapse(d, s, n, a, p, coin);
+            Shot::Random(coin)
+        }
+    }
+}
+
+// The character of an outcome.
+fn mark(random: bool, value: bool) -> u8
+    ensures { λ r. ⌜ r ≡ mark-of random value ⌝ }
+{
+    if random {
+        if value { b'3' } else { b'2' }
+    } else {
+        if value { b'1' } else { b'0' }
+    }
+}
+
+// What a line comes to: the position behind it and the tally, or a measurement without a coin, or a line that is refused.
+enum Step {
+    Next(usize, Tally),
+    NoCoin,
+    Refused,
+}
+
+fn measure(
+    d: &mut [u64; 129],
+    s: &mut [u64; 129],
+    marks: &mut [u8; 4096],
+    n: usize,
+    a: usize,
+    coins: &[u8],
+    tally: Tally,
+    next: usize,
+) -> Step
+    requires { ⌜ Room n (now coins) (now d) (now s) (now marks) tally × (a < n) ⌝ }
+    ensures { λ r. ⌜ MeasureAs n a (now (coins .entry)) (now (d .entry)) (now (s .entry)) (now (marks .entry)) tally next r (now (d .exit)) (now (s .exit)) (now (marks .exit)) ⌝ }
+{
+    let at = tally.measured;
+    let used = tally.taken;
+    match shoot(d, s, n, a, coins, used) {
+        Shot::Fixed(value) => {
+            marks[at] = mark(false, value);
+            Step::Next(next, tally::stepped_numbers(at, tally.random, used, false))
+        }
+        Shot::Random(value) => {
+            marks[at] = mark(true, value);
+            Step::Next(next, tally::stepped_numbers(at, tally.random, used, true))
+        }
+        Shot::NoCoin => Step::NoCoin,
+    }
+}
+
+// The gate of this number, on both groups.
+fn apply(d: &mut [u64; 129], s: &mut [u64; 129], code: usize)
+    requires { ⌜ Words (now d) × Words (now s) × Valid 64 (op-in code) × (name-in code ≡ 77 → ⊥) ⌝ }
+    ensures { λ _. ⌜ Applies code (now (d .entry)) (now (s .entry)) (now (d .exit)) (now (s .exit)) ⌝ }
+{
+    let name = coded::code::name(code);
+    let a = coded::code::first(code);
+    let b = coded::code::second(code);
+    if name == 1 {
+        columns::cx(d, a, b);
+        columns::cx(s, a, b);
+        return;
+    }
+    if name == 2 {
+        columns::cz(d, a, b);
+        columns::cz(s, a, b);
+        return;
+    }
+    columns::one(d, name, a);
+    columns::one(s, name, a);
+}
+
+fn turn(
+    text: &[u8],
+    at: usize,
+    d: &mut [u64; 129],
+    s: &mut [u64; 129],
+    marks: &mut [u8; 4096],
+    n: usize,
+    coins: &[u8],
+    tally: Tally,
+) -> Step
+    requires { ⌜ Room n (now coins) (now d) (now s) (now marks) tally ⌝ }
+    ensures { λ r. ⌜ StepAs (now (text .entry)) at n (now (coins .entry)) (now (d .entry)) (now (s .entry)) (now (marks .entry)) tally r (now (d .exit)) (now (s .exit)) (now (marks .exit)) ⌝ }
+{
+    let code = coded::op_at(text, at, n);
+    if code == 0 {
+        return Step::Refused;
+    }
+    let next = at + coded::code::length(code);
+    if coded::code::name(code) == 77 {
+        let a = coded::code::first(code);
+        return measure(d, s, marks, n, a, coins, tally, next);
+    }
+    apply(d, s, code);
+    Step::Next(next, tally)
+}
+
+// How the walk over all lines ends: at the end of the text, or at a line that goes no further.
+pub enum Walked {
+    Done(Tally),
+    Stopped(usize),
+}
+
+pub fn walk(
+    text: &[u8],
+    body: usize,
+    d: &mut [u64; 129],
+    s: &mut [u64; 129],
+    marks: &mut [u8; 4096],
+    n: usize,
+    coins: &[u8],
+) -> Walked
+    requires { ⌜ Walkable n (now d) (now s) (now marks) ⌝ }
+    ensures { λ r. ⌜ WalkAs (now (text .entry)) body n (now (coins .entry)) r (now (d .exit)) (now (s .exit)) (now (marks .exit)) ⌝ }
+{
+    let mut tally = Tally {
+        measured: 0,
+        random: 0,
+        taken: 0,
+    };
+    let mut at = body;
+    let mut line: usize = 2;
+    while at < text.len() {
+        if line == 4098 {
+            return Walked::Stopped(line);
+        }
+        match turn(text, at, d, s, marks, n, coins, tally) {
+            Step::Next(next, stepped) => {
+                at = next;
+                tally = stepped;
+                line += 1;
+            }
+            Step::NoCoin => {
+                return Walked::Stopped(line);
+            }
+            Step::Refused => {
+                return Walked::Stopped(line);
+            }
+        }
+    }
+    Walked::Done(tally)
+}
