@@ -1,21 +1,19 @@
 -- The meaning of a whole text from its parts. Assumes nothing.
-use mathlib.Core.Bool.{Bool, true, false, _&&_, cond}
-use mathlib.Core.List.{List, [], _∷_}
-use mathlib.Core.Option.{Option, none, some}
+use mathlib.Core.Bool.{_&&_}
+use mathlib.Core.List.{List}
 use mathlib.Core.Path.{_≡_, refl, sym, _∙_, ap}
-use Prim.Native.Nat.{ℕ, _+_, _≤_, _<_}
+use Prim.Native.Nat.{ℕ, _≤_, _<_}
 use native.Mathlib.Omega.{arith}
 use borrow.Author.Tests.{le-leb, lt-leb, leb-true}
-use lib.Dec.{eqb, leb}
+use lib.Dec.{leb}
 use lib.ListN.{length, drop}
 use Rattle.answers.specs.Verdict.{Verdict, accepted, refused, then, unless}
 use Rattle.clifford.specs.declared.Op.{Op}
 use Rattle.clifford.specs.Run.{All-valid}
-use Rattle.circuit.specs.Lines.{Found, found, malformed, then-read, strip, closed-by, end-byte, number, qubit}
+use Rattle.circuit.specs.Lines.{Found, found, malformed}
 use Rattle.circuit.specs.Text.{Circuit, operations, header, meaning}
-use Rattle.circuit.specs.Reading.{Stands, Has}
+use Rattle.circuit.specs.Reading.{Stands}
 use Rattle.checking.specs.Promises.{Counts, counts, Accepts, check-of}
-use Rattle.circuit.proofs.Readings.{spacing, closed, not-closed}
 use Rattle.circuit.proofs.Walk.{then-accepted, unless-true, unless-passed, and-left, and-right, within-room, all-valid}
 
 -- a text with its line 1 read

@@ -1,12 +1,11 @@
 -- What a pass over a whole text promises, and what the check answers. Assumes nothing.
-use mathlib.Core.List.{List, [], _∷_}
+use mathlib.Core.List.{List}
 use mathlib.Core.Path.{_≡_}
-use Prim.Native.Nat.{ℕ, _+_, _≤_}
+use Prim.Native.Nat.{ℕ, _≤_}
 use lib.ListN.{length, drop}
 use Rattle.answers.specs.Verdict.{Verdict, accepted, refused, then}
 use Rattle.answers.specs.Refusals.{numberOf, placeOf}
 use Rattle.clifford.specs.declared.Op.{Op}
-use Rattle.clifford.specs.declared.Op.the-variants.{Gate as apply, Measure as measure}
 use Rattle.checking.specs.declared.Turn.{Turn}
 use Rattle.checking.specs.declared.Turn.the-variants as turn
 use Rattle.checking.specs.declared.Counted.{Counted}

@@ -1,11 +1,8 @@
 // Reads a line of a circuit text at a position: an operation line, which the check, the run and the patch share, or line 1.
 ghost use mathlib.Core.Path.{_≡_};
 ghost use mathlib.Core.List.{[], _∷_};
-ghost use Prim.Native.Nat.{_≤_};
-ghost use lib.ListN.{drop};
 ghost use Rattle.circuit.specs.Lines.{closed-by, end-byte};
-ghost use Rattle.answers.specs.Verdict.{accepted, then};
-ghost use Rattle.circuit.specs.Text.{header, all-below, apart, operations, most-operations, measures};
+ghost use Rattle.circuit.specs.Text.{header, all-below, apart};
 ghost use Rattle.circuit.specs.Reading.{NumberAt, NameAt, Reads, pair-line, LineAt};
 use answers::Refusal;
 use clifford::Gate;

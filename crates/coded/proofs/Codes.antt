@@ -1,15 +1,14 @@
 -- The operations by their numbers: which are allowed, and which measure. Assumes nothing.
-use mathlib.Core.Bool.{Bool, true, false, _&&_, cond, not}
+use mathlib.Core.Bool.{Bool, true, false, _&&_, cond}
 use mathlib.Core.List.{List}
 use mathlib.Core.Path.{_≡_, refl, sym, _∙_, ap}
 use Prim.Native.Nat.{ℕ, _+_, _-_, _*_, _/_, _%_, _≤_, _<_}
 use native.Mathlib.Decide.{decLt}
 use native.Mathlib.Nat.{add-mul-div-left, add-mul-mod-self-left, div-eq-of-lt, mod-eq-of-lt}
 use native.Mathlib.Omega.{arith}
-use borrow.Author.Tests.{lt-ltb, ltb-true, ne-eqb, eq-eqb}
+use borrow.Author.Tests.{lt-ltb, ltb-true, ne-eqb}
 use lib.Dec.{eqb, ltb}
 use lib.ListN.{length, drop}
-use Rattle.answers.specs.Verdict.{accepted}
 use Rattle.clifford.specs.declared.Two.{Two}
 use Rattle.clifford.specs.declared.Two.the-variants.{Cx, Cz}
 use Rattle.clifford.specs.declared.Gate.{Gate}

@@ -1,6 +1,6 @@
 -- A line of the usual kind, put together from its bytes. Assumes nothing.
-use mathlib.Core.Bool.{Bool, true, false, _&&_, cond}
-use mathlib.Core.List.{List, [], _∷_}
+use mathlib.Core.Bool.{Bool, true, false, cond}
+use mathlib.Core.List.{List, _∷_}
 use mathlib.Core.Path.{_≡_, refl, sym, _∙_, ap}
 use Prim.Native.Nat.{ℕ, _+_, _-_, _*_, _≤_, _<_}
 use native.Mathlib.Decide.{decLt}
@@ -11,15 +11,14 @@ use lib.ListN.{length, getD, drop}
 use Rattle.clifford.specs.declared.Op.{Op}
 use Rattle.circuit.specs.declared.Line.the-variants as line
 use Rattle.circuit.specs.Lines.{is-digit, number, with-one, with-two, qubit, qubits, names, named, op-line}
-use Rattle.circuit.specs.Text.{all-below, apart}
-use Rattle.circuit.specs.Reading.{digit-value, Stands, Has, Spelled}
+use Rattle.circuit.specs.Reading.{Stands, Has, Spelled}
 use Rattle.coded.specs.Coded.{op-of, op-in, length-in, digits-by, Ends-by, Allowed}
 use Rattle.circuit.proofs.Positions.{front, strip-same, digit-none}
 use Rattle.circuit.proofs.Digits.{Digit, number-zero, begun, more, stopped}
 use Rattle.circuit.proofs.Names.{name-byte, spelled-one}
 use Rattle.circuit.proofs.Readings.{closed, spaced, one-line}
 use Rattle.circuit.proofs.Walk.{and-left, and-right}
-use Rattle.coded.proofs.Codes.{letter-below, letter-apart, Pairs, pairs, pair-below, pair-apart}
+use Rattle.coded.proofs.Codes.{letter-below, letter-apart, pairs, pair-below, pair-apart}
 
 pub digits-few : (c : ℕ) → digits-by c ≤ 2
 digits-few c = go (is-digit c)

@@ -1,5 +1,5 @@
 -- A run's rows have no letter from n on, and no row stands from number n on: every operation keeps that. Assumes nothing.
-use mathlib.Core.Path.{_≡_, refl, sym, _∙_, ap, ap₂}
+use mathlib.Core.Path.{_≡_, _∙_, ap, ap₂}
 use mathlib.Core.Bool.{Bool, true, false, cond}
 use mathlib.Core.List.{List, [], _∷_}
 use mathlib.Core.Option.{Option, none, some}
@@ -9,14 +9,14 @@ use lib.Dec.{eqb}
 use borrow.Author.Tests.{ne-eqb}
 use Rattle.answers.specs.Verdict.{Verdict, accepted, refused, then}
 use Rattle.answers.proofs.First.{Answer, lowest-is}
-use Rattle.pauli.specs.Letters.{I, Z, _·_, x}
+use Rattle.pauli.specs.Letters.{I, _·_}
 use Rattle.pauli.specs.Rows.{Letters, Row, times-row}
 use Rattle.clifford.specs.declared.Gate.{Gate}
 use Rattle.clifford.specs.declared.Gate.the-variants.{One as one, Two as two}
 use Rattle.clifford.specs.declared.Op.{Op}
 use Rattle.clifford.specs.declared.Op.the-variants.{Gate as apply, Measure as measure}
 use Rattle.clifford.specs.Gates.{new, gate, Fits}
-use Rattle.clifford.specs.Tableau.{Rows, blank, gated, alone}
+use Rattle.clifford.specs.Tableau.{Rows}
 use Rattle.clifford.specs.Measurement.{has-x, random-row, cleared, settled, collapsed}
 use Rattle.clifford.specs.Run.{State, coin, settle, step, run, Valid, All-valid}
 use Rattle.tableau.proofs.Gated.{gate-blank}

@@ -2,28 +2,25 @@
 -- letters and tally; and the list made by exclusive-or of three gives the exclusive-or of the three in every outcome and row sign. Assumes nothing.
 use mathlib.Core.Path.{_≡_, refl, sym, _∙_, ap, ap₂}
 use mathlib.Core.Bool.{Bool, true, false}
-use mathlib.Core.List.{List, [], _∷_, map}
-use mathlib.Core.Logic.{_⊎_, inl, inr}
-use Prim.Native.Nat.{ℕ, zero, suc, _≤_}
+use mathlib.Core.List.{List, [], _∷_}
+use Prim.Native.Nat.{ℕ}
 use native.Mathlib.Omega.{arith}
 use lib.Bits.{bitXor}
 use lib.Dec.{leb}
-use lib.ListN.{length, take, length-map}
-use lib.Seq.{take-at}
-use Rattle.answers.specs.Verdict.{Verdict, accepted, refused, then, unless, over}
+use lib.ListN.{length}
+use Rattle.answers.specs.Verdict.{Verdict, accepted, refused, then, unless}
 use Rattle.pauli.specs.Letters.{_⊕_}
 use Rattle.pauli.proofs.Cases.{tested, bit as flag}
 use Rattle.clifford.specs.Tableau.{Rows, start}
 use Rattle.clifford.specs.Measurement.{Outcome}
-use Rattle.clifford.specs.Run.{State, coin, run, begin}
-use Rattle.clifford.proofs.Alike.{Row-alike, Rows-alike, Outcome-alike, Bits-alike, All-alike, done, more, Coin-alike, State-alike, Alike, all-refused, all-accepted, alike-run}
+use Rattle.clifford.specs.Run.{State, coin, run}
+use Rattle.clifford.proofs.Alike.{Row-alike, Rows-alike, Outcome-alike, All-alike, done, more, Coin-alike, State-alike, Alike, all-refused, all-accepted, alike-run}
 use Rattle.words.proofs.BitLaws.{bit-low, bit-xor}
 use Rattle.circuit.specs.Text.{Circuit, meaning, count-measured}
-use Rattle.records.specs.Record.{mark, record-of, record-length}
-use Rattle.records.proofs.Lengths.{length-record}
+use Rattle.records.specs.Record.{record-of, record-length}
 use Rattle.tally.specs.declared.Tally.{Tally}
 use Rattle.tally.specs.Tally.{none-yet, stepped, tallied}
-use Rattle.run.specs.Run.{Sheet, sheet, run-circuit, run-of, numbers, rest-of, buffer-after, Runs}
+use Rattle.run.specs.Run.{Sheet, sheet, run-circuit, run-of}
 
 -- four records of one circuit: of the same kinds and letters, and in the last each outcome and each row sign is the exclusive-or of the other three
 pub record Records-alike (n : ℕ) (a b c d : List ℕ) : Type 0 where

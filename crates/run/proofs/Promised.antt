@@ -3,8 +3,7 @@
 use mathlib.Core.Path.{_≡_, refl, sym, _∙_, ap, ap₂, subst, subst₃}
 use mathlib.Core.Bool.{Bool, true, false, true≢false}
 use mathlib.Core.List.{List, [], _∷_, map}
-use Prim.Native.Nat.{ℕ, suc, _+_}
-use native.Mathlib.Omega.{arith}
+use Prim.Native.Nat.{ℕ, suc}
 use lib.ListN.{length, length-map}
 use Rattle.answers.specs.Verdict.{Verdict, accepted, refused, over}
 use Rattle.clifford.specs.Measurement.{Outcome}
@@ -14,8 +13,8 @@ use Rattle.records.proofs.Lengths.{length-record}
 use Rattle.tally.specs.declared.Tally.{Tally}
 use Rattle.tally.proofs.Tallies.{Tied, tally-tied}
 use Rattle.run.specs.Run.{Sheet, run-of, numbers, rest-of, buffer-after, Runs}
-use Rattle.run.proofs.Demand3.{Records-alike, Sheets-alike, Runs-alike, refused-alike, accepted-alike, two-lists, three-lists, xor3}
-use Rattle.run.proofs.ReadBack.{Accepted-run, accepted-run}
+use Rattle.run.proofs.Demand3.{Sheets-alike, Runs-alike, refused-alike, accepted-alike, two-lists, three-lists, xor3}
+use Rattle.run.proofs.ReadBack.{accepted-run}
 
 -- two answers that the promise allows are equal, and so are the coins handed back and the lent bytes afterwards
 pub run-one : (text coins old a b r s v w : List ℕ) → Runs text coins old a r v → Runs text coins old b s w → (a ≡ b) × (r ≡ s) × (v ≡ w)

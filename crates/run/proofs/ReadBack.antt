@@ -1,24 +1,23 @@
 -- What an accepted run is: properly paired rows after every operation, and a record that reads back as the same outcomes and rows, whatever stands before it.
 -- Assumes nothing.
-use mathlib.Core.Path.{_≡_, refl, sym, _∙_, ap, subst}
+use mathlib.Core.Path.{_≡_, sym, _∙_, ap, subst}
 use mathlib.Core.List.{List, [], _∷_, _++_, map}
-use Prim.Native.Nat.{ℕ, suc, _≤_}
+use Prim.Native.Nat.{ℕ, _≤_}
 use native.Mathlib.Omega.{arith}
 use lib.Dec.{leb}
 use lib.ListN.{length, length-map}
-use Rattle.answers.specs.Verdict.{Verdict, accepted, refused, then, unless}
+use Rattle.answers.specs.Verdict.{Verdict, accepted, unless}
 use Rattle.clifford.specs.declared.Op.{Op}
-use Rattle.clifford.specs.Tableau.{Paired, start}
 use Rattle.clifford.specs.Run.{State, run, All-valid, begin}
 use Rattle.clifford.proofs.Start.{start-paired}
 use Rattle.clifford.proofs.Running.{Good, run-good, Reached, every-prefix}
-use Rattle.circuit.specs.Text.{Circuit, meaning, count-measured, measures}
+use Rattle.circuit.specs.Text.{Circuit, meaning, count-measured}
 use Rattle.circuit.proofs.Walk.{then-accepted, unless-passed}
 use Rattle.checking.proofs.Meant.{parts}
 use Rattle.records.specs.Record.{mark, record-of, record-length}
-use Rattle.records.specs.Reading.{Read, read-of}
+use Rattle.records.specs.Reading.{read-of}
 use Rattle.records.proofs.Lengths.{length-record}
-use Rattle.records.proofs.Held.{Clean, Held}
+use Rattle.records.proofs.Held.{Held}
 use Rattle.records.proofs.Outcomes.{outcomes-marked}
 use Rattle.records.proofs.Start.{start-clean}
 use Rattle.records.proofs.Written.{written-reads}

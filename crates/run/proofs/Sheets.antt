@@ -2,14 +2,12 @@
 use mathlib.Core.Path.{_≡_, refl, sym, _∙_, ap, ap₂}
 use mathlib.Core.Bool.{Bool}
 use mathlib.Core.List.{List, [], _∷_, map}
-use Prim.Native.Nat.{ℕ, _+_, _≤_, _<_}
+use Prim.Native.Nat.{ℕ, _≤_, _<_}
 use native.Mathlib.Omega.{arith}
 use lib.Dec.{leb}
 use lib.ListN.{length, take, drop, length-take, length-map}
 use borrow.Author.Tests.{le-leb, lt-leb}
-use Rattle.answers.specs.declared.Refusal.{Refusal}
 use Rattle.answers.specs.Verdict.{Verdict, accepted, refused, then, unless, over}
-use Rattle.answers.specs.Refusals.{numberOf, placeOf}
 use Rattle.clifford.specs.declared.Op.{Op}
 use Rattle.clifford.specs.Tableau.{Rows, start}
 use Rattle.clifford.specs.Run.{State, run, begin}
@@ -20,11 +18,11 @@ use Rattle.checking.proofs.Meant.{lines-counted, parts}
 use Rattle.packing.specs.View.{rows-of}
 use Rattle.tableau.specs.declared.Tableau.{Tableau}
 use Rattle.tableau.specs.View.{rows}
-use Rattle.records.specs.Record.{mark, record-with, record-of, record-length}
+use Rattle.records.specs.Record.{mark, record-with, record-length}
 use Rattle.records.proofs.Lengths.{length-record}
 use Rattle.tally.specs.declared.Tally.{Tally}
 use Rattle.run.specs.Run.{Sheet, sheet, run-circuit, run-of, numbers, rest-of, buffer-after, Runs}
-use Rattle.walking.specs.Walk.{View, lines-of, or-none, Ended, Stuck}
+use Rattle.walking.specs.Walk.{lines-of, or-none, Ended, Stuck}
 use Rattle.run.specs.Ran.{judgement, Sheeted}
 use Rattle.walking.proofs.Counting.{run-count, measures-one}
 

@@ -1,8 +1,6 @@
 // The run of a circuit text on lent coins: its lines are walked over the start tableau, and the record is written at the end, so that a refused run has
 // written nothing. Where the walk stops before the end, the whole text says why.
 ghost use mathlib.Core.Path.{_≡_};
-ghost use mathlib.Core.List.{[], _∷_};
-ghost use lib.ListN.{drop};
 ghost use Rattle.answers.specs.Refusals.{numberOf, placeOf};
 ghost use Rattle.answers.specs.Verdict.{refused};
 ghost use Rattle.checking.specs.Promises.{Headed};

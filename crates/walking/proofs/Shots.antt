@@ -1,19 +1,15 @@
 -- What a measurement's parts give together: the row that makes it random, and the coin it takes. Assumes nothing.
-use mathlib.Core.Path.{_≡_, refl, sym, _∙_, ap}
-use mathlib.Core.Bool.{Bool, true, false}
-use mathlib.Core.List.{List, [], _∷_}
-use mathlib.Core.Option.{Option, none, some}
-use Prim.Native.Nat.{ℕ, suc, _+_, _≤_, _<_, _%_}
-use native.Mathlib.Omega.{arith}
-use lib.Dec.{eqb}
+use mathlib.Core.Path.{_≡_, sym}
+use mathlib.Core.Bool.{Bool}
+use mathlib.Core.List.{List}
+use mathlib.Core.Option.{some}
+use Prim.Native.Nat.{ℕ, suc, _≤_, _<_}
 use lib.ListN.{length, getD, drop, drop-of-length-le}
 use lib.Seq.{drop-cons}
-use Rattle.answers.specs.First.{lowest}
-use Rattle.answers.proofs.First.{Answer, lowest-is}
 use Rattle.clifford.specs.Tableau.{Rows}
-use Rattle.clifford.specs.Measurement.{random-row, collapsed, fixed-value}
+use Rattle.clifford.specs.Measurement.{random-row, collapsed}
 use Rattle.clifford.specs.Run.{coin}
-use Rattle.walking.specs.Walk.{Fixed, Random, Dry}
+use Rattle.walking.specs.Walk.{Random, Dry}
 
 module _ (n a : ℕ) (t : Rows) (coins : List ℕ) (used : ℕ) where
   pub was-dry : (p : ℕ) → some p ≡ random-row n a t → length coins ≤ used → Dry n a t (drop used coins)

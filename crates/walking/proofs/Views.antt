@@ -2,14 +2,14 @@
 use mathlib.Core.Path.{_≡_, refl, sym, _∙_, ap, ap₂}
 use mathlib.Core.Bool.{Bool, true, false}
 use mathlib.Core.List.{List, [], _∷_, _++_, map}
-use mathlib.Core.Option.{Option, none, some}
+use mathlib.Core.Option.{Option}
 use Prim.Native.Nat.{ℕ, suc, _+_, _≤_, _<_}
 use native.Mathlib.Nat.{add-zero}
 use native.Mathlib.Numerals.{add-one}
 use native.Mathlib.Omega.{arith}
 use lib.ListN.{length, take, drop, set, length-set, length-append, length-drop}
 use lib.Seq.{take-suc-set, drop-drop}
-use Rattle.answers.specs.Verdict.{Verdict, accepted, refused}
+use Rattle.answers.specs.Verdict.{refused}
 use Rattle.clifford.specs.declared.Gate.{Gate}
 use Rattle.clifford.specs.declared.Op.the-variants.{Gate as apply, Measure as measure}
 use Rattle.clifford.specs.Gates.{Fits}
@@ -21,7 +21,7 @@ use Rattle.columns.specs.Gated.{Gated}
 use Rattle.tableau.proofs.Gated.{gated-both}
 use Rattle.records.specs.Record.{mark, mark-of}
 use Rattle.tally.specs.declared.Tally.{Tally}
-use Rattle.tally.specs.Tally.{none-yet, one-if, stepped, tallied}
+use Rattle.tally.specs.Tally.{none-yet, stepped}
 use Rattle.circuit.specs.Lines.{op-line}
 use Rattle.circuit.specs.Reading.{Stands}
 use Rattle.circuit.specs.Text.{all-below}

@@ -1,6 +1,5 @@
 -- The walk over the lines of a text: what holds at each line, and how it ends. Assumes nothing.
 use mathlib.Core.Path.{_≡_, refl, sym, _∙_, ap}
-use mathlib.Core.Bool.{true}
 use mathlib.Core.List.{List, [], _∷_, _++_}
 use Prim.Native.Nat.{ℕ, suc, _+_, _-_, _≤_, _<_}
 use native.Mathlib.Numerals.{add-one}
@@ -8,17 +7,15 @@ use native.Mathlib.Omega.{arith}
 use lib.ListN.{length, drop}
 use Rattle.answers.specs.Verdict.{Verdict, accepted, refused, then}
 use Rattle.clifford.specs.declared.Op.{Op}
-use Rattle.clifford.specs.Run.{State, step, run, begin}
-use Rattle.circuit.specs.Lines.{op-line}
-use Rattle.circuit.specs.Reading.{Stands}
+use Rattle.clifford.specs.Run.{State, run, begin}
 use Rattle.circuit.specs.Text.{operations, most-operations}
 use Rattle.circuit.proofs.Positions.{front, past}
 use Rattle.checking.proofs.Counting.{then-then}
 use Rattle.circuit.proofs.Walk.{then-accepted, allowed-line, operations-end, next-line, next-at}
 use Rattle.tally.specs.declared.Tally.{Tally}
 use Rattle.tally.specs.Tally.{none-yet}
-use Rattle.walking.specs.Walk.{View, Went, Goes, Stops, Room, lines-of, or-none, Ended, Stuck, Walkable}
-use Rattle.tally.proofs.Tallies.{Tied, tally-tied, randoms, randoms-within}
+use Rattle.walking.specs.Walk.{View, Goes, Stops, Room, lines-of, or-none, Ended, Stuck, Walkable}
+use Rattle.tally.proofs.Tallies.{tally-tied, randoms, randoms-within}
 use Rattle.walking.proofs.Counting.{step-count, measures-one}
 use Rattle.walking.proofs.Views.{view-begin}
 

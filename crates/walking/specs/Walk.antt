@@ -14,11 +14,11 @@ use Rattle.clifford.specs.Measurement.{random-row, collapsed, fixed-value}
 use Rattle.clifford.specs.Run.{State, begin, coin, step, run}
 use Rattle.circuit.specs.Lines.{op-line}
 use Rattle.circuit.specs.Reading.{Stands}
-use Rattle.circuit.specs.Text.{all-below, apart, operations, meaning, most-operations, count-measured}
+use Rattle.circuit.specs.Text.{all-below, apart, operations, most-operations}
 use Rattle.coded.specs.Coded.{op-in}
 use Rattle.packing.specs.View.{Words, rows-of}
 use Rattle.columns.specs.Gated.{Gated}
-use Rattle.records.specs.Record.{mark, record-length}
+use Rattle.records.specs.Record.{mark}
 use Rattle.walking.specs.declared.Shot.{Shot}
 use Rattle.walking.specs.declared.Shot.the-variants as shot
 use Rattle.walking.specs.declared.Step.{Step}

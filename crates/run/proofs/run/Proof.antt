@@ -2,7 +2,6 @@ use native.Mathlib.Omega.{arith}
 use Prim.Native.Nat.{_-_}
 use lib.ListN.{length, drop, length-drop}
 use lib.Seq.{take-all}
-use mathlib.Core.Path.{_≡_, refl}
 use Rattle.run.proofs.Sheets.{ran-sheet, ran-refused}
 use borrow.Author.Needs.{needs}
 use Rattle.run.proofs.run.Statement.{statement}

@@ -1,4 +1,4 @@
-use mathlib.Core.Path.{_≡_, refl, sym}
+use mathlib.Core.Path.{refl, sym}
 use Rattle.answers.proofs.First.{lowest-below}
 use Rattle.packing.specs.View.{rows-of}
 use Rattle.walking.proofs.Shots.{was-dry, was-random}

@@ -1,6 +1,6 @@
 -- `walking::walk` meets its contract. Assumes nothing.
 use borrow.Author.Needs.{needs}
-use Prim.Native.Nat.{ℕ, _-_, _<_}
+use Prim.Native.Nat.{_-_}
 use native.Mathlib.Omega.{arith}
 use lib.ListN.{length}
 use Rattle.walking.proofs.Walking.{Walking, walk-begin, walk-room, walk-on, walk-dry, walk-refused, walk-full, walk-end}
