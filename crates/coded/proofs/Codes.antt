@@ -21,7 +21,7 @@ use Rattle.circuit.specs.Lines.{malformed, op-line}
 use Rattle.circuit.specs.Text.{all-below, apart, operations, measures}
 use Rattle.circuit.specs.Reading.{Stands}
 use Rattle.coded.specs.Coded.{op-of, op-in, name-in, first-in, second-in, length-in, Allowed, OpAt}
-use Rattle.circuit.proofs.Walk.{and-left, valid-op, next-at, never-malformed}
+use Rattle.circuit.proofs.Walk.{and-left, and-right, valid-op, next-at, never-malformed}
 
 -- what stands above a place, and under it
 above : (r d m : ℕ) → r < d → (r + d * m) / d ≡ m
@@ -105,12 +105,8 @@ pub below-more : (n m : ℕ) (op : Op) → n ≤ m → all-below n op ≡ true �
 below-more n m (apply (one g a)) h e = lt-ltb a m (omega (arith, ltb-true a n e))
 below-more n m (apply (two g a b)) h e =
     let p = ltb-true a n (and-left (ltb a n) (ltb b n) e) in
-    let q = ltb-true b n (right (ltb a n) (ltb b n) e) in
+    let q = ltb-true b n (and-right (ltb a n) (ltb b n) e) in
     rw (lt-ltb a m (omega (arith, p)), lt-ltb b m (omega (arith, q)))
-  where
-    right : (a b : Bool) → a && b ≡ true → b ≡ true
-    right true b e = e
-    right false b e = cc
 below-more n m (measure a) h e = lt-ltb a m (omega (arith, ltb-true a n e))
 
 -- 4 and 5 refuse no valid operation
