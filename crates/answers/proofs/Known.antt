@@ -8,7 +8,7 @@ use Rattle.answers.specs.declared.Refusal.the-variants.{NotQubits, Qubit
 use Rattle.answers.specs.declared.Written.{Written}
 use Rattle.answers.specs.declared.Written.the-variants.{Bytes, Refused}
 use Rattle.answers.specs.Verdict.{Verdict, accepted, refused}
-use Rattle.answers.specs.Refusals.{numberOf, placeOf, told, Writes}
+use Rattle.answers.specs.Refusals.{numberOf, placeOf, told-written, Writes}
 
 -- the refusal of a number and a place
 abbrev named : ℕ → ℕ → Refusal
@@ -36,14 +36,14 @@ abbrev back : Verdict ℕ → Written
 back (accepted count) = Bytes count
 back (refused number place) = Refused (named number place)
 
-back-again : (r : Written) → back (told r) ≡ r
+back-again : (r : Written) → back (told-written r) ≡ r
 back-again (Bytes count) = refl
 back-again (Refused r) = ap Refused (named-again r)
 
 pub one-refusal : (r s : Refusal) → numberOf r ≡ numberOf s → placeOf r ≡ placeOf s → r ≡ s
 one-refusal r s n p = sym (named-again r) ∙ (λ i. named (n i) (p i)) ∙ named-again s
 
-pub one-answer : (r s : Written) → told r ≡ told s → r ≡ s
+pub one-answer : (r s : Written) → told-written r ≡ told-written s → r ≡ s
 one-answer r s e = sym (back-again r) ∙ ap back e ∙ back-again s
 
 -- two answers that the same promise allows are equal, and so are the lent bytes afterwards

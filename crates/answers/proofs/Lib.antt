@@ -2,3 +2,4 @@ pub mod First
 pub mod Known
 pub mod Writing
 pub mod Answered
+pub mod Numbered

@@ -39,11 +39,11 @@ placeOf (NotPaired row) = row
 placeOf Anticommuting = 0
 placeOf RowLengths = 0
 
-abbrev pub told : Written → Verdict ℕ
-told (Bytes count) = accepted count
-told (Refused r) = refused (numberOf r) (placeOf r)
+abbrev pub told-written : Written → Verdict ℕ
+told-written (Bytes count) = accepted count
+told-written (Refused r) = refused (numberOf r) (placeOf r)
 
 -- what a function answers whose answer is these bytes, or this refusal, with a buffer that held old and holds new
 pub record Writes (v : Verdict (List ℕ)) (old : List ℕ) (r : Written) (new : List ℕ) : Type 0 where
-  pub answer : told r ≡ counted (then v (within (length old)))
+  pub answer : told-written r ≡ counted (then v (within (length old)))
   pub buffer : new ≡ after (then v (within (length old))) old

@@ -12,13 +12,12 @@ use lib.Seq.{ext-getD}
 use borrow.Author.Tests.{eq-eqb, ne-eqb, eqb-true, eqb-false}
 use Rattle.answers.specs.declared.Refusal.{Refusal}
 use Rattle.answers.specs.Verdict.{Verdict, accepted, refused}
-use Rattle.packing.specs.View.{group-rows}
+use Rattle.packing.specs.View.{group-rows, Holds}
 use Rattle.records.specs.Reading.{Read, read-of}
 use Rattle.writing.proofs.Packed.{rows-clean}
-use Rattle.loading.specs.Parts.{Holds}
-use Rattle.loading.proofs.OneGroup.{one-group}
-use Rattle.reading.specs.declared.Found.the-variants.{Record, Refused}
-use Rattle.reading.specs.declared.Sheet.{Sheet}
+use Rattle.read_rows.proofs.OneGroup.{one-group}
+use Rattle.reading.specs.declared.Last.the-variants.{Record, Refused}
+use Rattle.reading.specs.declared.Contents.{Contents}
 use Rattle.reading.specs.Answer.{Reads}
 use Rattle.archive.specs.declared.Same.the-variants as same
 use Rattle.archive.specs.Same.{all-of, equal-rows, same-state, Compared, compared, first-refused, second-refused, told-same, same-of}
@@ -112,7 +111,7 @@ judged v w =
       | refused number place ↦ first-refused number place
     ]
 
-module _ (s t : List ℕ) (a b : Sheet) (ra : Reads s a) (rb : Reads t b) where
+module _ (s t : List ℕ) (a b : Contents) (ra : Reads s a) (rb : Reads t b) where
   pub first-of : (why : Refusal) → a .found ≡ Refused why → told-same (same.First why) ≡ same-of s t
   first-of why f = sym (ap (λ (v : Verdict Read). judged v (read-of t)) (not-read s a ra why f))
 

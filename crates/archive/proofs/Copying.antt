@@ -13,15 +13,15 @@ use Rattle.records.specs.Reading.{Read, read-of, last-record}
 use Rattle.records.proofs.Numbers.{Bytes}
 use Rattle.records.proofs.Again.{read-writes}
 use Rattle.records.proofs.Lengths.{length-record}
-use Rattle.reading.specs.declared.Found.the-variants.{Record, Refused}
-use Rattle.reading.specs.declared.Sheet.{Sheet}
-use Rattle.reading.specs.Answer.{told, rows-on, Reads}
+use Rattle.reading.specs.declared.Last.the-variants.{Record, Refused}
+use Rattle.reading.specs.declared.Contents.{Contents}
+use Rattle.reading.specs.Answer.{told-read, rows-on, Reads}
 use Rattle.reading.proofs.Answers.{within}
 use Rattle.archive.specs.Copy.{rewritten, copy-of}
 
-module _ (s : List ℕ) (sheet : Sheet) (r : Reads s sheet) where
+module _ (s : List ℕ) (sheet : Contents) (r : Reads s sheet) where
   pub not-read : (why : Refusal) → sheet .found ≡ Refused why → read-of s ≡ refused (numberOf why) (placeOf why)
-  not-read why f = sym (r .answer) ∙ ap (told s (sheet .n) (rows-on sheet)) f
+  not-read why f = sym (r .answer) ∙ ap (told-read s (sheet .n) (rows-on sheet)) f
 
   pub not-copied : (why : Refusal) → sheet .found ≡ Refused why → copy-of s ≡ refused (numberOf why) (placeOf why)
   not-copied why f = ap (λ (v : Verdict Read). then v (λ q. accepted (rewritten q))) (not-read why f)
@@ -37,7 +37,7 @@ module _ (s : List ℕ) (sheet : Sheet) (r : Reads s sheet) where
         length-take-le (from + outcomes - from) (drop from s) (omega (arith, length-drop from s, k .inside)) ∙ omega arith
 
     pub was-read : read-of s ≡ accepted (record { qubits = sheet .n; size = length s - from; marks = take outcomes (drop from s); rows = rows-on sheet })
-    was-read = sym (r .answer) ∙ ap (told s (sheet .n) (rows-on sheet)) f
+    was-read = sym (r .answer) ∙ ap (told-read s (sheet .n) (rows-on sheet)) f
 
     pub copied : copy-of s ≡ accepted (record-with (sheet .n) part (rows-on sheet))
     copied =

@@ -2,3 +2,4 @@ pub mod Copying
 pub mod Alike
 pub mod Comparing
 pub mod OneAnswer
+pub mod Room

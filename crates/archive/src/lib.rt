@@ -3,13 +3,12 @@
 ghost use mathlib.Core.Path.{_≡_};
 ghost use Prim.Native.Nat.{_≤_};
 ghost use Rattle.answers.specs.Refusals.{Writes};
-ghost use Rattle.packing.specs.View.{group-rows};
-ghost use Rattle.loading.specs.Parts.{Holds};
+ghost use Rattle.packing.specs.View.{group-rows, Holds};
 ghost use Rattle.archive.specs.Copy.{copy-of};
 ghost use Rattle.archive.specs.Same.{all-of, equal-rows, told-same, same-of};
 use answers::Refusal;
 use answers::Written;
-use reading::Found;
+use reading::Last;
 
 pub fn copy(bytes: &[u8], out: &mut [u8]) -> Written
     ensures { λ r. ⌜ Writes (copy-of (now (bytes .entry))) (now (out .entry)) r (now (out .exit)) ⌝ }
@@ -17,7 +16,7 @@ pub fn copy(bytes: &[u8], out: &mut [u8]) -> Written
     let sheet = reading::read(bytes);
     let found = sheet.found;
     match found {
-        Found::Record { start, outcomes } => {
+        Last::Record { start, outcomes } => {
             let n = sheet.n;
             if out.len() < writing::record_size(n, outcomes) {
                 return Written::Refused(Refusal::NoRoom);
@@ -28,7 +27,7 @@ pub fn copy(bytes: &[u8], out: &mut [u8]) -> Written
             let size = writing::put_record(out, &bytes[start..end], &d, &s, n);
             Written::Bytes(size)
         }
-        Found::Refused(why) => Written::Refused(why),
+        Last::Refused(why) => Written::Refused(why),
     }
 }
 
@@ -66,11 +65,11 @@ pub fn same_state(first: &[u8], second: &[u8]) -> Same
     let one = a.found;
     let other = b.found;
     match one {
-        Found::Record {
+        Last::Record {
             start: _,
             outcomes: _,
         } => match other {
-            Found::Record {
+            Last::Record {
                 start: _,
                 outcomes: _,
             } => {
@@ -86,8 +85,8 @@ pub fn same_state(first: &[u8], second: &[u8]) -> Same
                     Same::Different
                 }
             }
-            Found::Refused(why) => Same::Second(why),
+            Last::Refused(why) => Same::Second(why),
         },
-        Found::Refused(why) => Same::First(why),
+        Last::Refused(why) => Same::First(why),
     }
 }

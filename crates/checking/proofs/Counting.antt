@@ -10,8 +10,8 @@ use Rattle.clifford.specs.declared.Op.{Op}
 use Rattle.clifford.specs.declared.Op.the-variants.{Gate as apply, Measure as measure}
 use Rattle.circuit.specs.Lines.{Found, found, malformed, op-line}
 use Rattle.circuit.specs.Text.{all-below, apart, checked, ends, operations, measures, count-measured}
-use Rattle.circuit.specs.Reading.{Stands}
-use Rattle.checking.specs.Promises.{line-verdict, Passes, Counts, counts}
+use Rattle.circuit.specs.parts.Reading.{Stands}
+use Rattle.checking.specs.parts.Promises.{line-verdict, Passes, Counts, counts}
 use Rattle.circuit.proofs.Positions.{front, past}
 use Rattle.circuit.proofs.Walk.{after-line, operations-suc, operations-zero, operations-end}
 

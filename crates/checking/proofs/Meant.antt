@@ -12,8 +12,9 @@ use Rattle.clifford.specs.declared.Op.{Op}
 use Rattle.clifford.specs.Run.{All-valid}
 use Rattle.circuit.specs.Lines.{Found, found, malformed}
 use Rattle.circuit.specs.Text.{Circuit, operations, header, meaning}
-use Rattle.circuit.specs.Reading.{Stands}
-use Rattle.checking.specs.Promises.{Counts, counts, Accepts, check-of}
+use Rattle.circuit.specs.parts.Reading.{Stands}
+use Rattle.checking.specs.parts.Promises.{Counts, counts, Accepts}
+use Rattle.checking.specs.Check.{check-of}
 use Rattle.circuit.proofs.Walk.{then-accepted, unless-true, unless-passed, and-left, and-right, within-room, all-valid}
 
 -- a text with its line 1 read

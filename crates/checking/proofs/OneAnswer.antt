@@ -16,8 +16,9 @@ use Rattle.checking.specs.declared.Checked.{Checked}
 use Rattle.checking.specs.declared.Checked.the-variants as checked
 use Rattle.circuit.specs.Lines.{Found, found, malformed}
 use Rattle.circuit.specs.Text.{Circuit, meaning, count-measured}
-use Rattle.circuit.specs.Reading.{LineAt}
-use Rattle.checking.specs.Promises.{Scans, Size, told-check}
+use Rattle.circuit.specs.parts.Reading.{LineAt}
+use Rattle.checking.specs.parts.Promises.{Scans}
+use Rattle.checking.specs.Check.{Size, told-check}
 
 -- a position is known by what stands behind it
 same-place : (s : List ℕ) (a b : ℕ) → a ≤ length s → b ≤ length s → drop a s ≡ drop b s → a ≡ b

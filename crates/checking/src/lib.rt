@@ -2,9 +2,11 @@
 ghost use mathlib.Core.Path.{_≡_};
 ghost use Prim.Native.Nat.{_≤_};
 ghost use lib.ListN.{drop};
+ghost use Rattle.clifford.specs.Limits.{most-operations};
 ghost use Rattle.answers.specs.Verdict.{accepted, then};
-ghost use Rattle.circuit.specs.Text.{operations, most-operations, measures};
-ghost use Rattle.checking.specs.Promises.{counts, TurnAt, told-lines, Heads, Scans, told-check, check-of};
+ghost use Rattle.circuit.specs.Text.{operations, measures};
+ghost use Rattle.checking.specs.parts.Promises.{counts, TurnAt, told-lines, Heads, Scans};
+ghost use Rattle.checking.specs.Check.{told-check, check-of};
 use answers::Refusal;
 use circuit::Line;
 use circuit::numbers::Number;
@@ -70,11 +72,11 @@ fn turn_at(s: &[u8], at: usize, n: usize, line: usize) -> Turn
     requires { ⌜ n ≤ 64 ⌝ }
     ensures { λ r. ⌜ TurnAt (now (s .entry)) at n line r ⌝ }
 {
-    let found = coded::usual::line_at(s, at, n);
+    let found = quick_lines::usual::line_at(s, at, n);
     if 0 < found {
         return Turn::Next(
-            at + coded::code::length(found),
-            coded::code::one_if_measure(found),
+            at + quick_lines::code::length(found),
+            quick_lines::code::one_if_measure(found),
         );
     }
     judged_at(s, at, n, line)

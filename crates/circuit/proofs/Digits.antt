@@ -10,7 +10,7 @@ use borrow.Author.Tests.{ne-eqb, leb-true, ltb-true, ltb-false}
 use lib.Dec.{leb, ltb}
 use lib.ListN.{length, getD, drop}
 use Rattle.circuit.specs.Lines.{found, malformed, is-digit, digits, number}
-use Rattle.circuit.specs.Reading.{digit-value, Stands}
+use Rattle.circuit.specs.parts.Reading.{digit-value, Stands}
 use Rattle.circuit.proofs.Positions.{front, past, digit-true}
 
 -- a byte is that of a digit, or it is none

@@ -9,7 +9,7 @@ use lib.Dec.{eqb}
 use lib.ListN.{drop}
 use Rattle.circuit.specs.Lines.{Found, malformed, then-read, strip, closed-by, end-byte, number, qubit}
 use Rattle.circuit.specs.Text.{header}
-use Rattle.circuit.specs.Reading.{Stands, Has}
+use Rattle.circuit.specs.parts.Reading.{Stands, Has}
 use Rattle.circuit.proofs.Readings.{spacing, closed, not-closed}
 
 headed : Option (List ℕ) → Found ℕ

@@ -4,3 +4,4 @@ pub mod Readings
 pub mod Headers
 pub mod Digits
 pub mod Walk
+pub mod Numbered

@@ -12,7 +12,7 @@ use Rattle.clifford.specs.declared.Two.the-variants.{Cx, Cz}
 use Rattle.clifford.specs.declared.Gate.the-variants.{Two as two}
 use Rattle.clifford.specs.declared.Op.the-variants.{Gate as apply, Measure as measure}
 use Rattle.circuit.specs.Lines.{Form, Name, malformed, with-one, with-two, strip, qubits, names, named}
-use Rattle.circuit.specs.Reading.{Has, Spelled}
+use Rattle.circuit.specs.parts.Reading.{Has, Spelled}
 use Rattle.circuit.proofs.Positions.{front, past}
 
 found-name : (e : Name) (es : List Name) (s rest : List ℕ) → strip (e .spelled) s ≡ some rest → named (e ∷ es) s ≡ qubits (e .form) rest

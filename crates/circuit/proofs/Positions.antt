@@ -11,7 +11,7 @@ use lib.Dec.{leb}
 use lib.ListN.{length, getD, drop, drop-of-length-le}
 use lib.Seq.{drop-cons}
 use Rattle.circuit.specs.Lines.{strip, is-digit}
-use Rattle.circuit.specs.Reading.{digit-value}
+use Rattle.circuit.specs.parts.Reading.{digit-value}
 
 module _ (s : List ℕ) (at : ℕ) where
   pub front : at < length s → drop at s ≡ getD s at 0 ∷ drop (at + 1) s

@@ -15,11 +15,11 @@ use Rattle.circuit.specs.declared.Line.the-variants as line
 use Rattle.circuit.specs.declared.numbers.Number.{Number}
 use Rattle.circuit.specs.declared.numbers.Number.the-variants as number-is
 use Rattle.circuit.specs.Lines.{Found, found, malformed, closed-by, end-byte, number, with-one, with-two, qubit, names, named, op-line}
-use Rattle.circuit.specs.Reading.{Stands, Has, NumberAt, Reads, Spelled, pair-line}
+use Rattle.circuit.specs.parts.Reading.{Stands, Has, NumberAt, ReadsAt, Spelled, pair-line}
 
 -- f reads here what g reads further on
 pub line-moved :
-    (f g : List ℕ → Found Op) (s : List ℕ) (at next : ℕ) (r : Line) → f (drop at s) ≡ g (drop next s) → at ≤ next → Reads g s next r → Reads f s at r
+    (f g : List ℕ → Found Op) (s : List ℕ) (at next : ℕ) (r : Line) → f (drop at s) ≡ g (drop next s) → at ≤ next → ReadsAt g s next r → ReadsAt f s at r
 line-moved f g s at next (line.Op op last) e h r = record { reads = e ∙ r .reads; after = omega (arith, r .after); within = r .within }
 line-moved f g s at next line.Malformed e h r = e ∙ r
 
@@ -52,13 +52,13 @@ module _ (s : List ℕ) (at : ℕ) where
 module _ (s : List ℕ) (at : ℕ) where
   pub one-line :
       (f : ℕ → Op) (a next : ℕ) (r : Line)
-      → Spelled s at (with-one f) 1 → Stands qubit s (at + 1) a next → Reads (closed-by (end-byte ∷ []) (f a)) s next r → Reads op-line s at r
+      → Spelled s at (with-one f) 1 → Stands qubit s (at + 1) a next → ReadsAt (closed-by (end-byte ∷ []) (f a)) s next r → ReadsAt op-line s at r
   one-line f a next r n q = line-moved op-line (closed-by (end-byte ∷ []) (f a)) s at next r (rw (n .names-it, q .reads)) (omega (arith, q .after))
 
   pub one-malformed : (f : ℕ → Op) → Spelled s at (with-one f) 1 → qubit (drop (at + 1) s) ≡ malformed → op-line (drop at s) ≡ malformed
   one-malformed f n q = rw (n .names-it, q)
 
-  pub two-line : (g : Two) (r : Line) → Spelled s at (with-two (λ a b. apply (two g a b))) 2 → Reads (pair-line g) s (at + 2) r → Reads op-line s at r
+  pub two-line : (g : Two) (r : Line) → Spelled s at (with-two (λ a b. apply (two g a b))) 2 → ReadsAt (pair-line g) s (at + 2) r → ReadsAt op-line s at r
   two-line g r n = line-moved op-line (pair-line g) s at (at + 2) r (rw (n .names-it)) (omega arith)
 
   pub unnamed : named names (drop at s) ≡ malformed → op-line (drop at s) ≡ malformed
@@ -67,7 +67,7 @@ module _ (s : List ℕ) (at : ℕ) where
 module _ (g : Two) (s : List ℕ) (at : ℕ) where
   pub pair :
       (a b next last : ℕ) (r : Line)
-      → Stands qubit s at a next → Stands qubit s next b last → Reads (closed-by (end-byte ∷ []) (apply (two g a b))) s last r → Reads (pair-line g) s at r
+      → Stands qubit s at a next → Stands qubit s next b last → ReadsAt (closed-by (end-byte ∷ []) (apply (two g a b))) s last r → ReadsAt (pair-line g) s at r
   pair a b next last r p q =
       line-moved (pair-line g) (closed-by (end-byte ∷ []) (apply (two g a b))) s at last r (rw (p .reads, q .reads)) (omega (arith, p .after, q .after))
 

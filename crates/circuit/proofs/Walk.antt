@@ -15,7 +15,7 @@ use Rattle.clifford.specs.declared.Op.the-variants.{Gate as apply, Measure as m
 use Rattle.clifford.specs.Run.{Valid, All-valid}
 use Rattle.circuit.specs.Lines.{Found, found, malformed, op-line}
 use Rattle.circuit.specs.Text.{all-below, apart, checked, ends, operations}
-use Rattle.circuit.specs.Reading.{Stands}
+use Rattle.circuit.specs.parts.Reading.{Stands}
 use Rattle.circuit.proofs.Positions.{front, past}
 
 -- what a later step accepts, an earlier one has accepted

@@ -8,17 +8,12 @@ use Rattle.answers.specs.Verdict.{Verdict, accepted, refused, then, unless}
 use Rattle.clifford.specs.declared.Gate.the-variants.{One as one, Two as two}
 use Rattle.clifford.specs.declared.Op.{Op}
 use Rattle.clifford.specs.declared.Op.the-variants.{Gate as apply, Measure as measure}
+use Rattle.clifford.specs.Limits.{most-qubits, most-operations}
 use Rattle.circuit.specs.Lines.{Found, found, malformed, then-read, strip, closed-by, end-byte, number, op-line}
 
 pub record Circuit : Type 0 where
   pub qubits : ℕ
   pub ops : List Op
-
-abbrev pub most-qubits : ℕ
-most-qubits = 64
-
-abbrev pub most-operations : ℕ
-most-operations = 4096
 
 -- 4: every qubit is below n
 abbrev pub all-below : ℕ → Op → Bool

@@ -3,7 +3,7 @@ ghost use mathlib.Core.Path.{_≡_};
 ghost use mathlib.Core.List.{[], _∷_};
 ghost use Rattle.circuit.specs.Lines.{closed-by, end-byte};
 ghost use Rattle.circuit.specs.Text.{header, all-below, apart};
-ghost use Rattle.circuit.specs.Reading.{NumberAt, NameAt, Reads, pair-line, LineAt};
+ghost use Rattle.circuit.specs.parts.Reading.{NumberAt, NameAt, ReadsAt, pair-line, LineAt};
 use answers::Refusal;
 use clifford::Gate;
 use clifford::One;
@@ -56,7 +56,7 @@ fn name_at(s: &[u8], at: usize) -> Word
 
 // The operation, if its line ends here.
 fn closed_at(s: &[u8], at: usize, op: Op) -> Line
-    ensures { λ r. ⌜ Reads (closed-by (end-byte ∷ []) op) (now (s .entry)) at r ⌝ }
+    ensures { λ r. ⌜ ReadsAt (closed-by (end-byte ∷ []) op) (now (s .entry)) at r ⌝ }
 {
     if numbers::byte_at(s, at, 10) {
         Line::Op(op, at + 1)
@@ -66,7 +66,7 @@ fn closed_at(s: &[u8], at: usize, op: Op) -> Line
 }
 
 fn pair_at(s: &[u8], at: usize, gate: Two) -> Line
-    ensures { λ r. ⌜ Reads (pair-line gate) (now (s .entry)) at r ⌝ }
+    ensures { λ r. ⌜ ReadsAt (pair-line gate) (now (s .entry)) at r ⌝ }
 {
     match numbers::qubit_at(s, at) {
         Number::Is(a, next) => match numbers::qubit_at(s, next) {

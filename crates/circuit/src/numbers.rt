@@ -2,7 +2,7 @@
 ghost use mathlib.Core.Path.{_≡_};
 ghost use lib.ListN.{drop};
 ghost use Rattle.circuit.specs.Lines.{number, qubit};
-ghost use Rattle.circuit.specs.Reading.{digit-value, Has, NumberAt};
+ghost use Rattle.circuit.specs.parts.Reading.{digit-value, Has, NumberAt};
 
 // A number with the position behind it.
 pub enum Number {

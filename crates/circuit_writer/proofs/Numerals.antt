@@ -10,7 +10,7 @@ use lib.Dec.{eqb}
 use Rattle.clifford.specs.declared.Gate.the-variants.{One as one}
 use Rattle.circuit.specs.Lines.{found, malformed, digits, number}
 use Rattle.circuit.proofs.Digits.{is-or-not, no-number, digits-more, number-starts}
-use Rattle.circuit_writer.specs.Writing.{decimal}
+use Rattle.circuit_writer.specs.Writing.{short-decimal}
 use Rattle.circuit_writer.proofs.Storing.{decimal-one, decimal-two, decimal-three}
 
 -- digits are read to their end, or one more is read
@@ -40,7 +40,7 @@ step k v (c ∷ t) x rest e =
 
 -- a number and what stands behind it
 pub record Numeral (s : List ℕ) (v : ℕ) (rest : List ℕ) : Type 0 where
-  pub text : s ≡ decimal v ++ rest
+  pub text : s ≡ short-decimal v ++ rest
   pub small : v < 1000
 
 one-digit : (d : ℕ) (t : List ℕ) (x : ℕ) (rest : List ℕ) → d ≤ 9 → Stopped d t x rest → Numeral ((48 + d) ∷ t) x rest

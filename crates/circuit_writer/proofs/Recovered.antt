@@ -20,7 +20,8 @@ use Rattle.circuit.specs.Text.{Circuit, ends, operations, header, meaning}
 use Rattle.circuit.proofs.Readings.{closing, spacing}
 use Rattle.circuit.proofs.Walk.{ends-or-not, next-line, no-more}
 use Rattle.checking.proofs.Meant.{parts}
-use Rattle.circuit_writer.specs.Writing.{decimal, name-text, qubit-text, qubits-text, line-text, header-text, lines-text, circuit-text, Small}
+use Rattle.circuit_writer.specs.Writing.{short-decimal, name-text, qubit-text, qubits-text, line-text, header-text, lines-text, circuit-text}
+use Rattle.circuit_writer.specs.parts.Storing.{Small}
 use Rattle.circuit_writer.proofs.Numerals.{same-found, number-read}
 
 -- bytes that stand at the front
@@ -207,7 +208,7 @@ header-if s n rest (some u) q e =
     let w = before (number u) (closed-by (10 ∷ [])) n rest e in
     let z = closed-read (w .value) (w .behind) n rest (w .later) in
     let y = number-read u n (10 ∷ rest) (w .first ∙ (λ i. found (sym (z .same) i) (z .text i))) in
-    stripped (81 ∷ 32 ∷ []) s u q ∙ ap (λ (l : List ℕ). 81 ∷ 32 ∷ l) (y .text ∙ sym (append-assoc (decimal n) (10 ∷ []) rest))
+    stripped (81 ∷ 32 ∷ []) s u q ∙ ap (λ (l : List ℕ). 81 ∷ 32 ∷ l) (y .text ∙ sym (append-assoc (short-decimal n) (10 ∷ []) rest))
 header-if s n rest none q e = absurd (let k : _≡_ {A = ℕ} 0 1 = cc in omega arith)
 
 pub header-read : (s : List ℕ) (n : ℕ) (rest : List ℕ) → header s ≡ found n rest → s ≡ header-text n ++ rest

@@ -14,7 +14,8 @@ use Rattle.clifford.specs.declared.Gate.{Gate}
 use Rattle.clifford.specs.declared.Gate.the-variants.{One as one, Two as two}
 use Rattle.clifford.specs.declared.Op.{Op}
 use Rattle.clifford.specs.declared.Op.the-variants.{Gate as apply, Measure as measure}
-use Rattle.circuit_writer.specs.Writing.{decimal, one-letter, two-letter, name-text, qubit-text, qubits-text, line-text, header-text, Small, Stores, Puts}
+use Rattle.circuit_writer.specs.Writing.{short-decimal, one-letter, two-letter, name-text, qubit-text, qubits-text, line-text, header-text}
+use Rattle.circuit_writer.specs.parts.Storing.{Small, Stores, Puts}
 
 sets-more : (a b l : List ℕ) (i : ℕ) → sets (sets l i a) (i + length a) b ≡ sets l i (a ++ b)
 sets-more [] b l i = rw add-zero
@@ -58,16 +59,16 @@ one-put {old = old} p q =
     (p .written ∙ rw e (sym (q .written)), e)
 
 -- the digits of a number, one, two or three
-pub decimal-one : (v : ℕ) → v < 10 → decimal v ≡ (48 + v) ∷ []
-unfolding decimal
+pub decimal-one : (v : ℕ) → v < 10 → short-decimal v ≡ (48 + v) ∷ []
+unfolding short-decimal
 decimal-one v h = rw (lt-ltb v 10 h)
 
-pub decimal-two : (v : ℕ) → 10 ≤ v → v < 100 → decimal v ≡ (48 + v / 10) ∷ (48 + v % 10) ∷ []
-unfolding decimal
+pub decimal-two : (v : ℕ) → 10 ≤ v → v < 100 → short-decimal v ≡ (48 + v / 10) ∷ (48 + v % 10) ∷ []
+unfolding short-decimal
 decimal-two v l h = rw (le-ltb v 10 l, lt-ltb v 100 h)
 
-pub decimal-three : (v : ℕ) → 100 ≤ v → decimal v ≡ (48 + v / 100) ∷ (48 + v / 10 % 10) ∷ (48 + v % 10) ∷ []
-unfolding decimal
+pub decimal-three : (v : ℕ) → 100 ≤ v → short-decimal v ≡ (48 + v / 100) ∷ (48 + v / 10 % 10) ∷ (48 + v % 10) ∷ []
+unfolding short-decimal
 decimal-three v l = rw (le-ltb v 10 (omega arith), le-ltb v 100 l)
 
 pub line-size : (op : Op) → length (line-text op) ≡ length (name-text op) + length (qubits-text op) + 1

@@ -21,7 +21,8 @@ use Rattle.circuit.specs.Text.{Circuit, all-below, apart, checked, ends, operat
 use Rattle.circuit.proofs.Digits.{digits-more, number-starts}
 use Rattle.checking.proofs.Meant.{meaning-read}
 use Rattle.circuit.proofs.Walk.{after-line, operations-suc, operations-end}
-use Rattle.circuit_writer.specs.Writing.{decimal, one-letter, two-letter, qubit-text, line-text, header-text, lines-text, circuit-text, Small}
+use Rattle.circuit_writer.specs.Writing.{short-decimal, one-letter, two-letter, qubit-text, line-text, header-text, lines-text, circuit-text}
+use Rattle.circuit_writer.specs.parts.Storing.{Small}
 use Rattle.circuit_writer.proofs.Storing.{decimal-one, decimal-two, decimal-three}
 
 -- a number, up to a byte that is no digit
@@ -50,7 +51,7 @@ module _ (c : ℕ) (rest : List ℕ) (e : is-digit c ≡ false) where
       ∙ digits-more 0 (10 * (v / 100) + v / 10 % 10) (v % 10) (c ∷ rest) (omega arith)
       ∙ ap (λ (k : ℕ). found k (c ∷ rest)) q
 
-  by-size : (v : ℕ) (a b : Bool) → ltb v 10 ≡ a → ltb v 100 ≡ b → v < 1000 → number (decimal v ++ c ∷ rest) ≡ found v (c ∷ rest)
+  by-size : (v : ℕ) (a b : Bool) → ltb v 10 ≡ a → ltb v 100 ≡ b → v < 1000 → number (short-decimal v ++ c ∷ rest) ≡ found v (c ∷ rest)
   by-size v true b p q h =
       let s : v < 10 = ltb-true v 10 p in
       ap (λ (t : List ℕ). number (t ++ c ∷ rest)) (decimal-one v s) ∙ one-digit v (eqb v 0) refl (omega arith)
@@ -62,7 +63,7 @@ module _ (c : ℕ) (rest : List ℕ) (e : is-digit c ≡ false) where
       let r : 100 ≤ v = ltb-false v 100 q in
       ap (λ (t : List ℕ). number (t ++ c ∷ rest)) (decimal-three v r) ∙ three-digits v r h
 
-  pub number-written : (v : ℕ) → v < 1000 → number (decimal v ++ c ∷ rest) ≡ found v (c ∷ rest)
+  pub number-written : (v : ℕ) → v < 1000 → number (short-decimal v ++ c ∷ rest) ≡ found v (c ∷ rest)
   number-written v h = by-size v (ltb v 10) (ltb v 100) refl refl h
 
 -- a line
@@ -77,19 +78,19 @@ two-name : (g : Two) (t : List ℕ) → named names (67 ∷ two-letter g ∷ t) 
 two-name Cx t = refl
 two-name Cz t = refl
 
-one-shape : (a : ℕ) (rest : List ℕ) → (qubit-text a ++ 10 ∷ []) ++ rest ≡ 32 ∷ (decimal a ++ 10 ∷ rest)
+one-shape : (a : ℕ) (rest : List ℕ) → (qubit-text a ++ 10 ∷ []) ++ rest ≡ 32 ∷ (short-decimal a ++ 10 ∷ rest)
 one-shape a rest = simp append-assoc
 
-two-shape : (a b : ℕ) (rest : List ℕ) → ((qubit-text a ++ qubit-text b) ++ 10 ∷ []) ++ rest ≡ 32 ∷ (decimal a ++ 32 ∷ (decimal b ++ 10 ∷ rest))
+two-shape : (a b : ℕ) (rest : List ℕ) → ((qubit-text a ++ qubit-text b) ++ 10 ∷ []) ++ rest ≡ 32 ∷ (short-decimal a ++ 32 ∷ (short-decimal b ++ 10 ∷ rest))
 two-shape a b rest = simp append-assoc
 
-one-read : (f : ℕ → Op) (a : ℕ) (s rest : List ℕ) → a < 1000 → named names s ≡ qubits (with-one f) (32 ∷ (decimal a ++ 10 ∷ rest)) → op-line s ≡ found (f a) rest
+one-read : (f : ℕ → Op) (a : ℕ) (s rest : List ℕ) → a < 1000 → named names s ≡ qubits (with-one f) (32 ∷ (short-decimal a ++ 10 ∷ rest)) → op-line s ≡ found (f a) rest
 one-read f a s rest h n = rw (n, number-written 10 rest refl a h)
 
 two-read :
     (f : ℕ → ℕ → Op) (a b : ℕ) (s rest : List ℕ)
-    → a < 1000 → b < 1000 → named names s ≡ qubits (with-two f) (32 ∷ (decimal a ++ 32 ∷ (decimal b ++ 10 ∷ rest))) → op-line s ≡ found (f a b) rest
-two-read f a b s rest h k n = rw (n, number-written 32 (decimal b ++ 10 ∷ rest) refl a h, number-written 10 rest refl b k)
+    → a < 1000 → b < 1000 → named names s ≡ qubits (with-two f) (32 ∷ (short-decimal a ++ 32 ∷ (short-decimal b ++ 10 ∷ rest))) → op-line s ≡ found (f a b) rest
+two-read f a b s rest h k n = rw (n, number-written 32 (short-decimal b ++ 10 ∷ rest) refl a h, number-written 10 rest refl b k)
 
 pub line-written : (op : Op) (rest : List ℕ) → Small op → op-line (line-text op ++ rest) ≡ found op rest
 line-written (apply (one g a)) rest h =

@@ -1,11 +1,8 @@
 -- The text of a circuit. Document 01, "The circuit text". Assumes nothing.
 use mathlib.Core.Bool.{cond}
 use mathlib.Core.List.{List, [], _∷_, _++_}
-use mathlib.Core.Path.{_≡_}
-use Prim.Native.Nat.{ℕ, _+_, _/_, _%_, _<_}
+use Prim.Native.Nat.{ℕ, _+_, _/_, _%_}
 use lib.Dec.{ltb}
-use lib.ListN.{length, take, drop}
-use lib.Seq.{sets}
 use Rattle.clifford.specs.declared.One.{One}
 use Rattle.clifford.specs.declared.One.the-variants.{H, S, PauliX, PauliY, PauliZ}
 use Rattle.clifford.specs.declared.Two.{Two}
@@ -17,8 +14,8 @@ use Rattle.circuit.specs.Lines.{space, end-byte}
 use Rattle.circuit.specs.Text.{Circuit}
 
 -- the decimal digits of a number below 1000, without a leading zero
-unfoldable pub decimal : ℕ → List ℕ
-decimal v =
+unfoldable pub short-decimal : ℕ → List ℕ
+short-decimal v =
     cond (ltb v 10) ((48 + v) ∷ [])
     (cond (ltb v 100) ((48 + v / 10) ∷ (48 + v % 10) ∷ [])
     ((48 + v / 100) ∷ (48 + v / 10 % 10) ∷ (48 + v % 10) ∷ []))
@@ -41,7 +38,7 @@ name-text (apply (two g a b)) = 67 ∷ two-letter g ∷ []
 name-text (measure a) = 77 ∷ []
 
 abbrev pub qubit-text : ℕ → List ℕ
-qubit-text a = space ∷ decimal a
+qubit-text a = space ∷ short-decimal a
 
 abbrev pub qubits-text : Op → List ℕ
 qubits-text (apply (one g a)) = qubit-text a
@@ -60,19 +57,3 @@ lines-text (op ∷ ops) = line-text op ++ lines-text ops
 
 abbrev pub circuit-text : Circuit → List ℕ
 circuit-text c = header-text (c .qubits) ++ lines-text (c .ops)
-
--- the qubits are below 1000, so that they can be written
-abbrev pub Small : Op → Type 0
-Small (apply (one g a)) = a < 1000
-Small (apply (two g a b)) = (a < 1000) × (b < 1000)
-Small (measure a) = a < 1000
-
--- the text is stored from at on, and nothing else changes
-pub record Stores (text old : List ℕ) (at : ℕ) (new : List ℕ) (next : ℕ) : Type 0 where
-  pub stored : new ≡ sets old at text
-  pub next-is : next ≡ at + length text
-
--- the same, with what stands before and behind
-pub record Puts (text old : List ℕ) (at : ℕ) (new : List ℕ) (next : ℕ) : Type 0 where
-  pub written : new ≡ take at old ++ text ++ drop next old
-  pub next-is : next ≡ at + length text

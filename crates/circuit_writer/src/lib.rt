@@ -2,15 +2,16 @@
 ghost use mathlib.Core.Path.{_≡_};
 ghost use Prim.Native.Nat.{_+_, _≤_, _<_};
 ghost use lib.ListN.{length};
-ghost use Rattle.circuit_writer.specs.Writing.{decimal, one-letter, two-letter, name-text, qubit-text, qubits-text, line-text, header-text, Small, Stores, Puts};
+ghost use Rattle.circuit_writer.specs.Writing.{short-decimal, one-letter, two-letter, name-text, qubit-text, qubits-text, line-text, header-text};
+ghost use Rattle.circuit_writer.specs.parts.Storing.{Small, Stores, Puts};
 use clifford::Gate;
 use clifford::One;
 use clifford::Op;
 use clifford::Two;
 
 fn put_number(out: &mut [u8], at: usize, v: usize) -> usize
-    requires { ⌜ (v < 1000) × (at + length (decimal v) ≤ length (now out)) ⌝ }
-    ensures { λ r. ⌜ Stores (decimal v) (now (out .entry)) at (now (out .exit)) r ⌝ }
+    requires { ⌜ (v < 1000) × (at + length (short-decimal v) ≤ length (now out)) ⌝ }
+    ensures { λ r. ⌜ Stores (short-decimal v) (now (out .entry)) at (now (out .exit)) r ⌝ }
 {
     if v < 10 {
         out[at] = (48 + v) as u8;

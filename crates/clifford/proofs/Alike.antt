@@ -7,7 +7,7 @@ use mathlib.Core.Option.{Option, none, some}
 use Prim.Native.Nat.{ℕ, zero, suc}
 use lib.Dec.{eqb}
 use Rattle.answers.specs.Verdict.{Verdict, accepted, refused, then}
-use Rattle.pauli.specs.Letters.{_⊕_, x, Power, i0, _+_, sign}
+use Rattle.pauli.specs.Letters.{_⊕_, x, Power, i0, _⊞_, sign}
 use Rattle.pauli.specs.Rows.{Row, Phased, mul, total, product, phased, minus-sign, times-row}
 use Rattle.pauli.proofs.Cases.{tested, bit, pow}
 use Rattle.pauli.proofs.RowLaws.{times-minus}
@@ -115,10 +115,10 @@ record Phased-alike (a b c d : Phased) : Type 0 where
   two : Bool
   three : Bool
   power : Power
-  first-is : a .phase ≡ sign one + power
-  second-is : b .phase ≡ sign two + power
-  third-is : c .phase ≡ sign three + power
-  fourth-is : d .phase ≡ sign (one ⊕ two ⊕ three) + power
+  first-is : a .phase ≡ sign one ⊞ power
+  second-is : b .phase ≡ sign two ⊞ power
+  third-is : c .phase ≡ sign three ⊞ power
+  fourth-is : d .phase ≡ sign (one ⊕ two ⊕ three) ⊞ power
 
 pick-phased : (p : Bool) {a b c d a′ b′ c′ d′ : Phased} → Phased-alike a b c d → Phased-alike a′ b′ c′ d′ → Phased-alike (cond p a a′) (cond p b b′) (cond p c c′) (cond p d d′)
 pick-phased true m m′ = m
@@ -132,16 +132,16 @@ alike-product n {a} {b} {c} {d} {a′} {b′} {c′} {d′} m m′ = record {
   one = m .one ⊕ a′ .minus;
   two = m .two ⊕ b′ .minus;
   three = m .three ⊕ c′ .minus;
-  power = m .power + total n (a .letters) (a′ .letters);
+  power = m .power ⊞ total n (a .letters) (a′ .letters);
   first-is = rw (m .first-is) (law (m .one) (a′ .minus) (m .power) (total n (a .letters) (a′ .letters)));
   second-is = rw (m .second-is, m .second, m′ .second) (law (m .two) (b′ .minus) (m .power) (total n (a .letters) (a′ .letters)));
   third-is = rw (m .third-is, m .third, m′ .third) (law (m .three) (c′ .minus) (m .power) (total n (a .letters) (a′ .letters)));
   fourth-is = rw (m .fourth-is, m .fourth, m′ .fourth, m′ .signs)
       (law (m .one ⊕ m .two ⊕ m .three) (a′ .minus ⊕ b′ .minus ⊕ c′ .minus) (m .power) (total n (a .letters) (a′ .letters))
-      ∙ ap (λ s. sign s + (m .power + total n (a .letters) (a′ .letters))) (mix (m .one) (m .two) (m .three) (a′ .minus) (b′ .minus) (c′ .minus)));
+      ∙ ap (λ s. sign s ⊞ (m .power ⊞ total n (a .letters) (a′ .letters))) (mix (m .one) (m .two) (m .three) (a′ .minus) (b′ .minus) (c′ .minus)));
 }
   where
-    law : (s t : Bool) (p q : Power) → sign s + p + sign t + q ≡ sign (s ⊕ t) + (p + q)
+    law : (s t : Bool) (p q : Power) → sign s ⊞ p ⊞ sign t ⊞ q ≡ sign (s ⊕ t) ⊞ (p ⊞ q)
     law = tested (bit ∷ bit ∷ pow ∷ pow ∷ []) pow _ _ tt
 
     mix : (p q r s t u : Bool) → p ⊕ q ⊕ r ⊕ (s ⊕ t ⊕ u) ≡ p ⊕ s ⊕ (q ⊕ t) ⊕ (r ⊕ u)
@@ -162,7 +162,7 @@ alike-fixed n q m =
     let g = alike-gathered n q m n in
     rw (g .first-is, g .second-is, g .third-is, g .fourth-is) (law (g .one) (g .two) (g .three) (g .power))
   where
-    law : (s t u : Bool) (p : Power) → minus-sign (sign (s ⊕ t ⊕ u) + p) ≡ minus-sign (sign s + p) ⊕ minus-sign (sign t + p) ⊕ minus-sign (sign u + p)
+    law : (s t u : Bool) (p : Power) → minus-sign (sign (s ⊕ t ⊕ u) ⊞ p) ≡ minus-sign (sign s ⊞ p) ⊕ minus-sign (sign t ⊞ p) ⊕ minus-sign (sign u ⊞ p)
     law = tested (bit ∷ bit ∷ bit ∷ pow ∷ []) bit _ _ tt
 
 one-more : {a b c d : List Outcome} {e f g h : Outcome} → All-alike Outcome-alike a b c d → Outcome-alike e f g h → All-alike Outcome-alike (a ++ (e ∷ [])) (b ++ (f ∷ [])) (c ++ (g ∷ [])) (d ++ (h ∷ []))

@@ -5,7 +5,7 @@ use mathlib.Core.List.{[], _∷_}
 use mathlib.Core.Option.{Option, none, some}
 use Prim.Native.Nat.{ℕ, zero, suc, _<_, _≤_}
 use native.Mathlib.Omega.{arith}
-use Rattle.pauli.specs.Letters.{I, Z, _⊕_, x, _·_, Power, i0, _+_, sign, odd}
+use Rattle.pauli.specs.Letters.{I, Z, _⊕_, x, _·_, Power, i0, _⊞_, sign, odd}
 use Rattle.pauli.specs.Sums.{sum}
 use Rattle.pauli.specs.Rows.{Letters, anticommute, total, phased, product, minus-sign}
 use Rattle.pauli.proofs.Cases.{tested, bit, pow}
@@ -47,7 +47,7 @@ gathered-even : (n a : ℕ) (t : Rows) → Paired n t → (k : ℕ) → k ≤ n 
 gathered-even n a t p zero hk = refl
 gathered-even n a t p (suc k) hk = go (has-x a (t .destabilizer k)) (gathered-even n a t p k (omega arith))
   where
-    law : (q r : Power) (m : Bool) → odd (q + sign m + r) ≡ odd q ⊕ odd r
+    law : (q r : Power) (m : Bool) → odd (q ⊞ sign m ⊞ r) ≡ odd q ⊕ odd r
     law = tested (pow ∷ pow ∷ bit ∷ []) bit _ _ tt
 
     go : (c : Bool) → odd (gathered n a t k .phase) ≡ false → odd ((cond c (product n (gathered n a t k) (phased (t .stabilizer k))) (gathered n a t k)) .phase) ≡ false

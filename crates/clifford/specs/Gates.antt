@@ -3,7 +3,7 @@ use mathlib.Core.Bool.{Bool, true, false, not, _&&_, cond}
 use mathlib.Core.Path.{_≡_}
 use Prim.Native.Nat.{ℕ, _<_}
 use lib.Dec.{eqb}
-use Rattle.pauli.specs.Letters.{Letter, _⊕_, x, z, letter, _+_, sign}
+use Rattle.pauli.specs.Letters.{Letter, _⊕_, x, z, letter, _⊞_, sign}
 use Rattle.pauli.specs.Rows.{Letters, Row, Phased}
 use Rattle.clifford.specs.declared.One.{One}
 use Rattle.clifford.specs.declared.One.the-variants.{H, S, PauliX, PauliY, PauliZ}
@@ -55,7 +55,7 @@ gate g r = record { minus = r .minus ⊕ turns g (r .letters); letters = new g (
 
 -- the same of letters with a power of i before them: a sign that turns over adds two
 abbrev pub gate-phased : Gate → Phased → Phased
-gate-phased g r = record { phase = r .phase + sign (turns g (r .letters)); letters = new g (r .letters) }
+gate-phased g r = record { phase = r .phase ⊞ sign (turns g (r .letters)); letters = new g (r .letters) }
 
 -- the qubits of a gate are of the n, and are not the same
 abbrev pub Fits : ℕ → Gate → Type 0

@@ -1,5 +1,6 @@
+pub mod Limits
 pub mod Gates
-pub mod Named
 pub mod Tableau
 pub mod Measurement
 pub mod Run
+pub mod parts

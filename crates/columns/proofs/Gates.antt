@@ -16,7 +16,7 @@ use Rattle.clifford.specs.declared.Two.{Two}
 use Rattle.clifford.specs.declared.Gate.the-variants.{One as one, Two as two}
 use Rattle.clifford.specs.Gates.{turns₁, new₁, turns₂, newA, newB, gate}
 use Rattle.packing.specs.View.{Words, letter-at, row-at}
-use Rattle.columns.specs.Gated.{Gated}
+use Rattle.columns.specs.parts.Gated.{Gated}
 use Rattle.columns.proofs.Views.{row-eq, guard, guard-in, guard-out, guarded}
 use Rattle.columns.proofs.Stores.{put, put-words, put-letter, put-letters, sign-set, sign-letters}
 

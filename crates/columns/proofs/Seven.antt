@@ -1,5 +1,5 @@
 -- The word operations of the seven gates. Assumes nothing.
-use mathlib.Core.Path.{_≡_, refl, sym, _∙_, subst}
+use mathlib.Core.Path.{_≡_, refl, _∙_}
 use mathlib.Core.Bool.{Bool, true, false, _&&_, cond, not}
 use mathlib.Core.List.{List, [], _∷_}
 use mathlib.Core.Logic.{_≢_}
@@ -16,11 +16,10 @@ use Rattle.pauli.proofs.Cases.{tested, bit as bool}
 use Rattle.clifford.specs.declared.One.the-variants.{H, S, PauliX, PauliY, PauliZ}
 use Rattle.clifford.specs.declared.Two.the-variants.{Cx, Cz}
 use Rattle.clifford.specs.declared.Gate.the-variants.{One as one, Two as two}
-use Rattle.clifford.specs.declared.One.{One}
-use Rattle.clifford.specs.Named.{one-of}
+use Rattle.clifford.specs.parts.Named.{one-of}
 use Rattle.packing.specs.View.{Words}
-use Rattle.columns.specs.Gated.{Gated}
-use Rattle.columns.proofs.Stores.{same-letter, put, put-other, keep-x, keep-z, keep-both}
+use Rattle.columns.specs.parts.Gated.{Gated}
+use Rattle.columns.proofs.Stores.{same-letter, put, put-other, keep-x, keep-z}
 use Rattle.columns.proofs.Gates.{gate-one, gate-two}
 
 abbrev pub x : List ℕ → ℕ → ℕ
@@ -33,14 +32,11 @@ abbrev pub sign : List ℕ → ℕ
 sign w = getD w 128 0
 
 module _ (w : List ℕ) (lw : Words w) (a : ℕ) (la : a < 64) where
-  pub h-gate : Gated (one H a) w (set (put w a (z w a) (x w a)) 128 (bitXor (sign w) (bitAnd (x w a) (z w a))))
-  h-gate = gate-one H w lw a la _ _ _ (λ i. simp (x-letter, z-letter)) (λ i. simp (bit-xor, bit-and, x-letter, z-letter))
+  h-put : Gated (one H a) w (set (put w a (z w a) (x w a)) 128 (bitXor (sign w) (bitAnd (x w a) (z w a))))
+  h-put = gate-one H w lw a la _ _ _ (λ i. simp (x-letter, z-letter)) (λ i. simp (bit-xor, bit-and, x-letter, z-letter))
 
   s-put : Gated (one S a) w (set (put w a (x w a) (bitXor (z w a) (x w a))) 128 (bitXor (sign w) (bitAnd (x w a) (z w a))))
   s-put = gate-one S w lw a la _ _ _ (λ i. simp (bit-xor, x-letter, z-letter)) (λ i. simp (bit-xor, bit-and, x-letter, z-letter))
-
-  pub s-gate : Gated (one S a) w (set (set w (64 + a) (bitXor (z w a) (x w a))) 128 (bitXor (sign w) (bitAnd (x w a) (z w a))))
-  s-gate = rw keep-x s-put
 
   -- three that change signs alone
   x-put : Gated (one PauliX a) w (set (put w a (x w a) (z w a)) 128 (bitXor (sign w) (z w a)))
@@ -52,23 +48,11 @@ module _ (w : List ℕ) (lw : Words w) (a : ℕ) (la : a < 64) where
   z-put : Gated (one PauliZ a) w (set (put w a (x w a) (z w a)) 128 (bitXor (sign w) (x w a)))
   z-put = gate-one PauliZ w lw a la _ _ _ (λ i. refl) (λ i. simp (bit-xor, x-letter))
 
-  turning : (g : One) (s : ℕ) → Gated (one g a) w (set (put w a (x w a) (z w a)) 128 s) → Gated (one g a) w (set w 128 s)
-  turning g s = subst (λ (v : List ℕ). Gated (one g a) w (set v 128 s)) (sym (keep-both w a))
-
-  pub x-gate : Gated (one PauliX a) w (set w 128 (bitXor (sign w) (z w a)))
-  x-gate = turning PauliX _ x-put
-
-  pub y-gate : Gated (one PauliY a) w (set w 128 (bitXor (sign w) (bitXor (x w a) (z w a))))
-  y-gate = turning PauliY _ y-put
-
-  pub z-gate : Gated (one PauliZ a) w (set w 128 (bitXor (sign w) (x w a)))
-  z-gate = turning PauliZ _ z-put
-
   -- all five, by which of them it is
   chosen : (h s p y : Bool) → Gated (one (cond h H (cond s S (cond p PauliX (cond y PauliY PauliZ)))) a) w
       (set (put w a (cond h (z w a) (x w a)) (cond h (x w a) (cond s (bitXor (z w a) (x w a)) (z w a)))) 128
       (bitXor (sign w) (cond h (bitAnd (x w a) (z w a)) (cond s (bitAnd (x w a) (z w a)) (cond p (z w a) (cond y (bitXor (x w a) (z w a)) (x w a)))))))
-  chosen true s p y = h-gate
+  chosen true s p y = h-put
   chosen false true p y = s-put
   chosen false false true y = x-put
   chosen false false false true = y-put

@@ -4,68 +4,15 @@ ghost use mathlib.Core.Bool.{cond};
 ghost use mathlib.Core.Path.{_≡_};
 ghost use Prim.Native.Nat.{ℕ, _<_, _≤_};
 ghost use Rattle.clifford.specs.Gates.{Fits};
-ghost use Rattle.clifford.specs.Named.{one-of};
+ghost use Rattle.clifford.specs.parts.Named.{one-of};
 ghost use Rattle.answers.specs.First.{lowest};
 ghost use Rattle.clifford.specs.Measurement.{has-x};
 ghost use Rattle.packing.specs.View.{Words, group-rows};
-ghost use Rattle.columns.specs.Gated.{Gated};
-ghost use Rattle.columns.specs.Found.{found};
+ghost use Rattle.columns.specs.parts.Gated.{Gated};
+ghost use Rattle.columns.specs.parts.LowestRow.{row-found};
 use clifford::Gate;
 use clifford::One;
 use clifford::Two;
-
-pub fn h(w: &mut [u64; 129], a: usize)
-    requires { ⌜ Words (now w) × (a < 64) ⌝ }
-    ensures { λ _. ⌜ Gated (Gate.One One.H a) (now (w .entry)) (now (w .exit)) ⌝ }
-{
-    let x = w[a];
-    let z = w[64 + a];
-    let sign = w[128];
-    w[a] = z;
-    w[64 + a] = x;
-    w[128] = sign ^ (x & z);
-}
-
-pub fn s(w: &mut [u64; 129], a: usize)
-    requires { ⌜ Words (now w) × (a < 64) ⌝ }
-    ensures { λ _. ⌜ Gated (Gate.One One.S a) (now (w .entry)) (now (w .exit)) ⌝ }
-{
-    let x = w[a];
-    let z = w[64 + a];
-    let sign = w[128];
-    let new = z ^ x;
-    let turns = x & z;
-    w[64 + a] = new;
-    w[128] = sign ^ turns;
-}
-
-pub fn x(w: &mut [u64; 129], a: usize)
-    requires { ⌜ Words (now w) × (a < 64) ⌝ }
-    ensures { λ _. ⌜ Gated (Gate.One One.PauliX a) (now (w .entry)) (now (w .exit)) ⌝ }
-{
-    let z = w[64 + a];
-    let sign = w[128];
-    w[128] = sign ^ z;
-}
-
-pub fn y(w: &mut [u64; 129], a: usize)
-    requires { ⌜ Words (now w) × (a < 64) ⌝ }
-    ensures { λ _. ⌜ Gated (Gate.One One.PauliY a) (now (w .entry)) (now (w .exit)) ⌝ }
-{
-    let x = w[a];
-    let z = w[64 + a];
-    let sign = w[128];
-    w[128] = sign ^ (x ^ z);
-}
-
-pub fn z(w: &mut [u64; 129], a: usize)
-    requires { ⌜ Words (now w) × (a < 64) ⌝ }
-    ensures { λ _. ⌜ Gated (Gate.One One.PauliZ a) (now (w .entry)) (now (w .exit)) ⌝ }
-{
-    let x = w[a];
-    let sign = w[128];
-    w[128] = sign ^ x;
-}
 
 pub fn cx(w: &mut [u64; 129], a: usize, b: usize)
     requires { ⌜ Words (now w) × (a < 64) × (b < 64) × (a ≡ b → ⊥) ⌝ }
@@ -106,7 +53,7 @@ fn pick(on: bool, b: u64, c: u64) -> u64
     if on { b } else { c }
 }
 
-// The gate on one qubit that has this letter. Which it is decides no jump of the processor's, as that of `gate` does.
+// The gate on one qubit that has this letter. Which it is decides no jump of the processor's.
 pub fn one(w: &mut [u64; 129], letter: usize, a: usize)
     requires { ⌜ Words (now w) × (a < 64) ⌝ }
     ensures { λ _. ⌜ Gated (Gate.One (one-of letter) a) (now (w .entry)) (now (w .exit)) ⌝ }
@@ -122,18 +69,25 @@ pub fn one(w: &mut [u64; 129], letter: usize, a: usize)
     w[128] = sign ^ turns;
 }
 
+// The letter of a gate on one qubit.
+fn letter(k: One) -> usize
+    ensures { λ r. ⌜ one-of r ≡ k ⌝ }
+{
+    match k {
+        One::H => 72,
+        One::S => 83,
+        One::PauliX => 88,
+        One::PauliY => 89,
+        One::PauliZ => 90,
+    }
+}
+
 pub fn gate(w: &mut [u64; 129], g: Gate)
     requires { ⌜ Words (now w) × Fits 64 g ⌝ }
     ensures { λ _. ⌜ Gated g (now (w .entry)) (now (w .exit)) ⌝ }
 {
     match g {
-        Gate::One(k, a) => match k {
-            One::H => h(w, a),
-            One::S => s(w, a),
-            One::PauliX => x(w, a),
-            One::PauliY => y(w, a),
-            One::PauliZ => z(w, a),
-        },
+        Gate::One(k, a) => one(w, letter(k), a),
         Gate::Two(k, a, b) => match k {
             Two::Cx => cx(w, a, b),
             Two::Cz => cz(w, a, b),
@@ -141,17 +95,21 @@ pub fn gate(w: &mut [u64; 129], g: Gate)
     }
 }
 
-pub enum Found {
+pub enum LowestRow {
     At(usize),
     Nothing,
 }
 
 // The lowest of the first n rows that has X or Y at a.
-pub fn random_row(w: &[u64; 129], n: usize, a: usize) -> Found
+pub fn random_row(w: &[u64; 129], n: usize, a: usize) -> LowestRow
     requires { ⌜ (n ≤ 64) × (a < n) ⌝ }
-    ensures { λ r. ⌜ found r ≡ lowest (λ i. has-x a (group-rows n (now (w .entry)) i)) n ⌝ }
+    ensures { λ r. ⌜ row-found r ≡ lowest (λ i. has-x a (group-rows n (now (w .entry)) i)) n ⌝ }
 {
     let x = w[a];
     let p = u64::trailing_zeros(x) as usize;
-    if p < n { Found::At(p) } else { Found::Nothing }
+    if p < n {
+        LowestRow::At(p)
+    } else {
+        LowestRow::Nothing
+    }
 }

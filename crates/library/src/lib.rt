@@ -5,7 +5,7 @@ ghost use mathlib.Core.Path.{_≡_};
 ghost use Rattle.answers.specs.Refusals.{Writes};
 ghost use Rattle.archive.specs.Copy.{copy-of};
 ghost use Rattle.archive.specs.Same.{same-of, told-same};
-ghost use Rattle.checking.specs.Promises.{check-of, told-check};
+ghost use Rattle.checking.specs.Check.{check-of, told-check};
 ghost use Rattle.patch.specs.Patch.{patch-of};
 ghost use Rattle.product.specs.Product.{product-of};
 ghost use Rattle.reading.specs.Answer.{Hands, Reads};
@@ -13,7 +13,7 @@ ghost use Rattle.run.specs.Run.{Runs};
 use answers::Written;
 use archive::Same;
 use checking::Checked;
-use reading::Sheet;
+use reading::Contents;
 
 // n and the number of operations of a circuit text, or one of the refusals 1 to 6 with its line.
 pub fn check(circuit: &[u8]) -> Checked
@@ -44,7 +44,7 @@ pub fn read<'b>(
 }
 
 // The same as a whole tableau by value, with the places of the outcomes.
-pub fn read_sheet(bytes: &[u8]) -> Sheet
+pub fn read_sheet(bytes: &[u8]) -> Contents
     ensures { λ r. ⌜ Reads (now (bytes .entry)) r ⌝ }
 {
     reading::read(bytes)

@@ -13,7 +13,7 @@ use Rattle.clifford.specs.declared.One.the-variants.{H, S, PauliX, PauliY, Paul
 use Rattle.clifford.specs.declared.Two.{Two}
 use Rattle.clifford.specs.declared.Two.the-variants.{Cx, Cz}
 use Rattle.clifford.specs.Gates.{turns₁, new₁, turns₂, newA, newB}
-use Rattle.matrices.specs.Matrices.{Entry, Matrix, scale, mul, kron, unit, matrix, gate₁, gate₂}
+use Rattle.matrices.specs.Matrices.{Gaussian, Matrix, scale, matrix-times, kron, unit, matrix, gate₁, gate₂}
 
 abbrev same-number : ℤ → ℤ → Bool
 same-number (pos m) (pos n) = eqb m n
@@ -21,7 +21,7 @@ same-number (pos m) (negsuc n) = false
 same-number (negsuc m) (pos n) = false
 same-number (negsuc m) (negsuc n) = eqb m n
 
-abbrev same-entry : Entry → Entry → Bool
+abbrev same-entry : Gaussian → Gaussian → Bool
 same-entry a b = same-number (a .re) (b .re) && same-number (a .im) (b .im)
 
 abbrev same-list : {A : Type 0} → (A → A → Bool) → List A → List A → Bool
@@ -43,7 +43,7 @@ number-sound (pos m) (negsuc n) e = absurd (true≢false (sym e))
 number-sound (negsuc m) (pos n) e = absurd (true≢false (sym e))
 number-sound (negsuc m) (negsuc n) e = ap negsuc (eqb-true m n e)
 
-entry-sound : (a b : Entry) → same-entry a b ≡ true → a ≡ b
+entry-sound : (a b : Gaussian) → same-entry a b ≡ true → a ≡ b
 entry-sound a b e =
     let p = both (same-number (a .re) (b .re)) (same-number (a .im) (b .im)) e in
     λ j. record { re = number-sound (a .re) (b .re) (p .0) j; im = number-sound (a .im) (b .im) (p .1) j }
@@ -60,23 +60,23 @@ sound : (m p : Matrix) → same m p ≡ true → m ≡ p
 sound = list-sound (same-list same-entry) (list-sound same-entry entry-sound)
 
 -- the sixteen products: each product of two letters' matrices is the power of i times the matrix of the product letter
-products-hold : (a b : Letter) → same (mul (matrix a) (matrix b)) (scale (unit (power a b)) (matrix (a · b))) ≡ true
+products-hold : (a b : Letter) → same (matrix-times (matrix a) (matrix b)) (scale (unit (power a b)) (matrix (a · b))) ≡ true
 products-hold = tested (ltr ∷ ltr ∷ []) bit _ _ tt
 
-pub letter-products : (a b : Letter) → mul (matrix a) (matrix b) ≡ scale (unit (power a b)) (matrix (a · b))
+pub letter-products : (a b : Letter) → matrix-times (matrix a) (matrix b) ≡ scale (unit (power a b)) (matrix (a · b))
 letter-products a b = sound _ _ (products-hold a b)
 
 -- the gates: U P is P' U with its sign, for each letter or pair of letters P and its image P'
-one-holds : (g : One) (l : Letter) → same (mul (gate₁ g) (matrix l)) (scale (unit (sign (turns₁ g l))) (mul (matrix (new₁ g l)) (gate₁ g))) ≡ true
+one-holds : (g : One) (l : Letter) → same (matrix-times (gate₁ g) (matrix l)) (scale (unit (sign (turns₁ g l))) (matrix-times (matrix (new₁ g l)) (gate₁ g))) ≡ true
 one-holds = elim [ H ↦ tested (ltr ∷ []) bit _ _ tt | S ↦ tested (ltr ∷ []) bit _ _ tt | PauliX ↦ tested (ltr ∷ []) bit _ _ tt | PauliY ↦ tested (ltr ∷ []) bit _ _ tt | PauliZ ↦ tested (ltr ∷ []) bit _ _ tt ]
 
-pub one-qubit-gates : (g : One) (l : Letter) → mul (gate₁ g) (matrix l) ≡ scale (unit (sign (turns₁ g l))) (mul (matrix (new₁ g l)) (gate₁ g))
+pub one-qubit-gates : (g : One) (l : Letter) → matrix-times (gate₁ g) (matrix l) ≡ scale (unit (sign (turns₁ g l))) (matrix-times (matrix (new₁ g l)) (gate₁ g))
 one-qubit-gates g l = sound _ _ (one-holds g l)
 
 two-holds : (g : Two) (a b : Letter)
-    → same (mul (gate₂ g) (kron (matrix a) (matrix b))) (scale (unit (sign (turns₂ g a b))) (mul (kron (matrix (newA g a b)) (matrix (newB g a b))) (gate₂ g))) ≡ true
+    → same (matrix-times (gate₂ g) (kron (matrix a) (matrix b))) (scale (unit (sign (turns₂ g a b))) (matrix-times (kron (matrix (newA g a b)) (matrix (newB g a b))) (gate₂ g))) ≡ true
 two-holds = elim [ Cx ↦ tested (ltr ∷ ltr ∷ []) bit _ _ tt | Cz ↦ tested (ltr ∷ ltr ∷ []) bit _ _ tt ]
 
 pub two-qubit-gates : (g : Two) (a b : Letter)
-    → mul (gate₂ g) (kron (matrix a) (matrix b)) ≡ scale (unit (sign (turns₂ g a b))) (mul (kron (matrix (newA g a b)) (matrix (newB g a b))) (gate₂ g))
+    → matrix-times (gate₂ g) (kron (matrix a) (matrix b)) ≡ scale (unit (sign (turns₂ g a b))) (matrix-times (kron (matrix (newA g a b)) (matrix (newB g a b))) (gate₂ g))
 two-qubit-gates g a b = sound _ _ (two-holds g a b)

@@ -10,67 +10,67 @@ use Rattle.clifford.specs.declared.Two.{Two}
 use Rattle.clifford.specs.declared.Two.the-variants.{Cx, Cz}
 
 -- a Gaussian integer
-pub record Entry : Type 0 where
+pub record Gaussian : Type 0 where
   pub re : ℤ
   pub im : ℤ
 
-abbrev pub o : Entry
+abbrev pub o : Gaussian
 o = record { re = pos 0; im = pos 0 }
 
-abbrev pub one : Entry
+abbrev pub one : Gaussian
 one = record { re = pos 1; im = pos 0 }
 
-abbrev pub i : Entry
+abbrev pub i : Gaussian
 i = record { re = pos 0; im = pos 1 }
 
-abbrev pub neg : Entry → Entry
+abbrev pub neg : Gaussian → Gaussian
 neg a = record { re = negℤ (a .re); im = negℤ (a .im) }
 
-abbrev pub plus : Entry → Entry → Entry
+abbrev pub plus : Gaussian → Gaussian → Gaussian
 plus a b = record { re = a .re +ℤ b .re; im = a .im +ℤ b .im }
 
-abbrev pub times : Entry → Entry → Entry
-times a b = record { re = (a .re *ℤ b .re) +ℤ negℤ (a .im *ℤ b .im); im = (a .re *ℤ b .im) +ℤ (a .im *ℤ b .re) }
+abbrev pub entry-times : Gaussian → Gaussian → Gaussian
+entry-times a b = record { re = (a .re *ℤ b .re) +ℤ negℤ (a .im *ℤ b .im); im = (a .re *ℤ b .im) +ℤ (a .im *ℤ b .re) }
 
 -- a matrix is a list of its rows
 abbrev pub Matrix : Type 0
-Matrix = List (List Entry)
+Matrix = List (List Gaussian)
 
-abbrev pub scale : Entry → Matrix → Matrix
-scale c m = map (map (times c)) m
+abbrev pub scale : Gaussian → Matrix → Matrix
+scale c m = map (map (entry-times c)) m
 
 -- the sum of two rows
-abbrev pub add : List Entry → List Entry → List Entry
+abbrev pub add : List Gaussian → List Gaussian → List Gaussian
 add [] s = s
 add (a ∷ r) [] = a ∷ r
 add (a ∷ r) (b ∷ s) = plus a b ∷ add r s
 
 -- a row times a matrix: its entries times the matrix's rows, summed
-abbrev pub row-times : List Entry → Matrix → List Entry
+abbrev pub row-times : List Gaussian → Matrix → List Gaussian
 row-times [] m = []
 row-times (a ∷ r) [] = []
-row-times (a ∷ r) (s ∷ m) = add (map (times a) s) (row-times r m)
+row-times (a ∷ r) (s ∷ m) = add (map (entry-times a) s) (row-times r m)
 
-abbrev pub mul : Matrix → Matrix → Matrix
-mul m p = map (λ r. row-times r p) m
+abbrev pub matrix-times : Matrix → Matrix → Matrix
+matrix-times m p = map (λ r. row-times r p) m
 
 -- the Kronecker product
-abbrev pub kron-row : List Entry → List Entry → List Entry
+abbrev pub kron-row : List Gaussian → List Gaussian → List Gaussian
 kron-row [] s = []
-kron-row (a ∷ r) s = map (times a) s ++ kron-row r s
+kron-row (a ∷ r) s = map (entry-times a) s ++ kron-row r s
 
-abbrev pub kron-rows : List Entry → Matrix → Matrix
+abbrev pub kron-rows : List Gaussian → Matrix → Matrix
 kron-rows r m = map (kron-row r) m
 
 abbrev pub kron : Matrix → Matrix → Matrix
 kron [] p = []
 kron (r ∷ m) p = kron-rows r p ++ kron m p
 
-abbrev pub two-by-two : Entry → Entry → Entry → Entry → Matrix
+abbrev pub two-by-two : Gaussian → Gaussian → Gaussian → Gaussian → Matrix
 two-by-two a b c d = (a ∷ b ∷ []) ∷ (c ∷ d ∷ []) ∷ []
 
 -- a power of i
-abbrev pub unit : Power → Entry
+abbrev pub unit : Power → Gaussian
 unit i0 = one
 unit i1 = i
 unit i2 = neg one

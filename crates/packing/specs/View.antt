@@ -1,8 +1,8 @@
 -- The rows that groups of words hold: bit i of a word belongs to row i, and each qubit has a word of x bits and one of z bits. Assumes nothing.
-use mathlib.Core.Bool.{cond}
+use mathlib.Core.Bool.{false, cond}
 use mathlib.Core.List.{List}
 use mathlib.Core.Path.{_≡_}
-use Prim.Native.Nat.{ℕ, _+_}
+use Prim.Native.Nat.{ℕ, _+_, _≤_, _<_}
 use lib.Dec.{ltb}
 use lib.ListN.{length, getD}
 use Rattle.pauli.specs.Letters.{Letter, I, letter}
@@ -29,3 +29,9 @@ group-rows n w i = cond (ltb i n) (row-at n w i) blank
 -- the rows of a tableau of n qubits in two groups, the destabilizers and the stabilizers
 abbrev pub rows-of : ℕ → List ℕ → List ℕ → Rows
 rows-of n d s = record { destabilizer = group-rows n d; stabilizer = group-rows n s }
+
+-- a group of words in which nothing is set but in its first n rows of n letters
+pub record Holds (n : ℕ) (w : List ℕ) : Type 0 where
+  pub words : Words w
+  pub rows : (c i : ℕ) → n ≤ i → bit i (getD w c 0) ≡ false
+  pub letters : (j : ℕ) → n ≤ j → j < 64 → (getD w j 0 ≡ 0) × (getD w (64 + j) 0 ≡ 0)

@@ -11,7 +11,7 @@ use Rattle.clifford.specs.declared.Op.{Op}
 use Rattle.clifford.specs.declared.Op.the-variants.{Gate as apply, Measure as measure}
 use Rattle.clifford.specs.Gates.{Fits}
 use Rattle.circuit.specs.Lines.{Found, found, malformed, op-line}
-use Rattle.circuit.specs.Reading.{Stands}
+use Rattle.circuit.specs.parts.Reading.{Stands}
 use Rattle.circuit.specs.Text.{all-below, apart, checked}
 use Rattle.circuit.proofs.Positions.{front, past}
 use Rattle.circuit.proofs.Walk.{then-accepted, check-valid}

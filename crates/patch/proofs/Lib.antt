@@ -1,2 +1,3 @@
 pub mod GateLines
 pub mod Patching
+pub mod Room

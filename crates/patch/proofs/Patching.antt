@@ -15,14 +15,15 @@ use Rattle.clifford.specs.declared.Gate.{Gate}
 use Rattle.clifford.specs.Gates.{Fits}
 use Rattle.clifford.specs.Tableau.{Rows, gated}
 use Rattle.packing.specs.View.{rows-of}
-use Rattle.columns.specs.Gated.{Gated}
-use Rattle.tableau.proofs.Gated.{gated-both, fits-64}
+use Rattle.tableau.specs.declared.Tableau.{Tableau}
+use Rattle.tableau.specs.View.{rows}
+use Rattle.tableau.specs.Operations.{Applied}
 use Rattle.records.specs.Record.{record-with, record-length}
 use Rattle.records.specs.Reading.{Read}
 use Rattle.records.proofs.Lengths.{length-record}
-use Rattle.reading.specs.declared.Found.the-variants.{Record, Refused}
-use Rattle.reading.specs.declared.Sheet.{Sheet}
-use Rattle.reading.specs.Answer.{told, rows-on, Reads}
+use Rattle.reading.specs.declared.Last.the-variants.{Record, Refused}
+use Rattle.reading.specs.declared.Contents.{Contents}
+use Rattle.reading.specs.Answer.{told-read, rows-on, Reads}
 use Rattle.reading.proofs.Answers.{within}
 use Rattle.patch.specs.Patch.{gate-for, patched, patch-of}
 use Rattle.patch.proofs.GateLines.{given-fits}
@@ -31,12 +32,12 @@ use Rattle.patch.proofs.GateLines.{given-fits}
 pub one-patch : (s line old : List ℕ) (r q : Written) (new last : List ℕ) → Writes (patch-of s line) old r new → Writes (patch-of s line) old q last → (r ≡ q) × (new ≡ last)
 one-patch s line = writes-one (patch-of s line)
 
-module _ (s line : List ℕ) (sheet : Sheet) (r : Reads s sheet) where
+module _ (s line : List ℕ) (sheet : Contents) (r : Reads s sheet) where
   abbrev read-then : Verdict Read → Verdict (List ℕ)
   read-then v = then v (λ q. then (gate-for (q .qubits) line) (λ g. accepted (patched q g)))
 
   pub not-patched : (why : Refusal) → sheet .found ≡ Refused why → patch-of s line ≡ refused (numberOf why) (placeOf why)
-  not-patched why f = ap read-then (sym (r .answer) ∙ ap (told s (sheet .n) (rows-on sheet)) f)
+  not-patched why f = ap read-then (sym (r .answer) ∙ ap (told-read s (sheet .n) (rows-on sheet)) f)
 
   module _ (from outcomes : ℕ) (f : sheet .found ≡ Record from outcomes) where
     -- the outcomes, as the part of the bytes that is handed to the writer
@@ -65,7 +66,7 @@ module _ (s line : List ℕ) (sheet : Sheet) (r : Reads s sheet) where
     line-decides : (v : Verdict Gate) → gate-for (sheet .n) line ≡ v → patch-of s line ≡ then v (λ g. accepted (record-with (sheet .n) part (gated g (rows-on sheet))))
     line-decides v e =
         let k : outcomes ≡ from + outcomes - from = omega arith in
-        ap read-then (sym (r .answer) ∙ ap (told s (sheet .n) (rows-on sheet)) f)
+        ap read-then (sym (r .answer) ∙ ap (told-read s (sheet .n) (rows-on sheet)) f)
         ∙ ap (λ (m : ℕ). then (gate-for (sheet .n) line) (λ g. accepted (record-with (sheet .n) (take m (drop from s)) (gated g (rows-on sheet))))) k
         ∙ ap (λ (w : Verdict Gate). then w (λ g. accepted (record-with (sheet .n) part (gated g (rows-on sheet))))) e
 
@@ -76,15 +77,13 @@ module _ (s line : List ℕ) (sheet : Sheet) (r : Reads s sheet) where
       pub patches : patch-of s line ≡ accepted (record-with (sheet .n) part (gated g (rows-on sheet)))
       patches = line-decides (accepted g) (sym e)
 
-      fits : Fits (sheet .n) g
+      pub fits : Fits (sheet .n) g
       fits = given-fits (sheet .n) line g (sym e)
 
-      pub fits-group : Fits 64 g
-      fits-group = fits-64 g (sheet .n) (within s sheet r from outcomes f .most) fits
-
-      pub patches-words : (d t : List ℕ) → Gated g (sheet .destabilizers) d → Gated g (sheet .stabilizers) t
-          → patch-of s line ≡ accepted (record-with (sheet .n) part (rows-of (sheet .n) d t))
-      patches-words d t ed et =
+      pub patches-rows : (t : Tableau) → Applied g (record { n = sheet .n; destabilizers = sheet .destabilizers; stabilizers = sheet .stabilizers }) t
+          → patch-of s line ≡ accepted (record-with (sheet .n) part (rows-of (sheet .n) (t .destabilizers) (t .stabilizers)))
+      unfolding rows
+      patches-rows t a =
           patches
           ∙ ap (λ (q : Rows). accepted (record-with (sheet .n) part q))
-          (sym (gated-both g (sheet .n) (sheet .destabilizers) (sheet .stabilizers) d t (within s sheet r from outcomes f .most) fits ed et))
+          (sym (a .after) ∙ ap (λ (m : ℕ). rows-of m (t .destabilizers) (t .stabilizers)) (a .size))

@@ -1,2 +1,2 @@
 pub mod Patch
-pub mod Given
+pub mod parts

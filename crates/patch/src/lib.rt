@@ -1,14 +1,15 @@
-// Patches a record: it is read, one gate line is applied to both groups of its rows, and it is written again with its outcomes as they were.
+// Patches a record: it is read, one gate line is applied to its rows, and it is written again with its outcomes as they were.
 ghost use mathlib.Core.Path.{_≡_};
 ghost use Rattle.answers.specs.Refusals.{Writes};
 ghost use Rattle.patch.specs.Patch.{gate-for, patch-of};
-ghost use Rattle.patch.specs.Given.{told-gate};
+ghost use Rattle.patch.specs.parts.Given.{told-gate};
 use answers::Refusal;
 use answers::Written;
 use circuit::Line;
 use clifford::Gate;
 use clifford::Op;
-use reading::Found;
+use reading::Last;
+use tableau::Tableau;
 
 // The gate of a line, or why it is refused.
 enum Given {
@@ -46,21 +47,27 @@ pub fn patch(bytes: &[u8], line: &[u8], out: &mut [u8]) -> Written
     let found = sheet.found;
     let n = sheet.n;
     match found {
-        Found::Record { start, outcomes } => match gate_of(line, n) {
+        Last::Record { start, outcomes } => match gate_of(line, n) {
             Given::Gate(g) => {
                 if out.len() < writing::record_size(n, outcomes) {
                     return Written::Refused(Refusal::NoRoom);
                 }
-                let mut d = sheet.destabilizers;
-                let mut s = sheet.stabilizers;
-                columns::gate(&mut d, g);
-                columns::gate(&mut s, g);
+                let destabilizers = sheet.destabilizers;
+                let stabilizers = sheet.stabilizers;
+                let rows = Tableau {
+                    n,
+                    destabilizers,
+                    stabilizers,
+                };
+                let patched = rows.gate(g);
+                let d = patched.destabilizers;
+                let s = patched.stabilizers;
                 let end = start + outcomes;
                 let size = writing::put_record(out, &bytes[start..end], &d, &s, n);
                 Written::Bytes(size)
             }
             Given::Refused(why) => Written::Refused(why),
         },
-        Found::Refused(why) => Written::Refused(why),
+        Last::Refused(why) => Written::Refused(why),
     }
 }

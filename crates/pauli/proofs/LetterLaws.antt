@@ -2,7 +2,7 @@
 use mathlib.Core.Path.{_≡_, sym, _∙_, ap}
 use mathlib.Core.Bool.{Bool, true, false, _&&_}
 use mathlib.Core.List.{[], _∷_}
-use Rattle.pauli.specs.Letters.{Letter, I, Power, i0, i1, _⊕_, x, z, letter, _+_, sign, odd, _·_, power, differ}
+use Rattle.pauli.specs.Letters.{Letter, I, Power, i0, i1, _⊕_, x, z, letter, _⊞_, sign, odd, _·_, power, differ}
 use Rattle.pauli.specs.Rows.{minus-sign}
 use Rattle.pauli.proofs.Cases.{tested, bit, ltr, pow}
 use Rattle.pauli.proofs.Sums.{Adds}
@@ -10,7 +10,7 @@ use Rattle.pauli.proofs.Sums.{Adds}
 pub xor-adds : Adds false _⊕_
 xor-adds = record { left = tested (bit ∷ []) bit _ _ tt; right = tested (bit ∷ []) bit _ _ tt; medial = tested (bit ∷ bit ∷ bit ∷ bit ∷ []) bit _ _ tt }
 
-pub power-adds : Adds i0 _+_
+pub power-adds : Adds i0 _⊞_
 power-adds = record { left = tested (pow ∷ []) pow _ _ tt; right = tested (pow ∷ []) pow _ _ tt; medial = tested (pow ∷ pow ∷ pow ∷ pow ∷ []) pow _ _ tt }
 
 pub letter-adds : Adds I _·_
@@ -33,10 +33,10 @@ mul-bits = tested (ltr ∷ ltr ∷ []) ltr _ _ tt
 pub power-odd : (a b : Letter) → odd (power a b) ≡ differ a b
 power-odd = tested (ltr ∷ ltr ∷ []) bit _ _ tt
 
-pub power-swap : (a b : Letter) → power a b ≡ power b a + sign (differ a b)
+pub power-swap : (a b : Letter) → power a b ≡ power b a ⊞ sign (differ a b)
 power-swap = tested (ltr ∷ ltr ∷ []) pow _ _ tt
 
-pub power-assoc : (a b c : Letter) → power a b + power (a · b) c ≡ power b c + power a (b · c)
+pub power-assoc : (a b c : Letter) → power a b ⊞ power (a · b) c ≡ power b c ⊞ power a (b · c)
 power-assoc = tested (ltr ∷ ltr ∷ ltr ∷ []) pow _ _ tt
 
 pub mul-assoc : (a b c : Letter) → a · b · c ≡ a · (b · c)
@@ -51,22 +51,22 @@ differ-mul = tested (ltr ∷ ltr ∷ ltr ∷ []) bit _ _ tt
 pub differ-bits : (a b : Letter) → differ a b ≡ (x a && z b) ⊕ (z a && x b)
 differ-bits = tested (ltr ∷ ltr ∷ []) bit _ _ tt
 
-pub add-assoc : (p q r : Power) → p + q + r ≡ p + (q + r)
+pub add-assoc : (p q r : Power) → p ⊞ q ⊞ r ≡ p ⊞ (q ⊞ r)
 add-assoc = tested (pow ∷ pow ∷ pow ∷ []) pow _ _ tt
 
-pub odd-plus : (p q : Power) → odd (p + q) ≡ odd p ⊕ odd q
+pub odd-plus : (p q : Power) → odd (p ⊞ q) ≡ odd p ⊕ odd q
 odd-plus = tested (pow ∷ pow ∷ []) bit _ _ tt
 
-pub sign-plus : (a b : Bool) → sign (a ⊕ b) ≡ sign a + sign b
+pub sign-plus : (a b : Bool) → sign (a ⊕ b) ≡ sign a ⊞ sign b
 sign-plus = tested (bit ∷ bit ∷ []) pow _ _ tt
 
 -- an even power is that of its sign
 pub even-sign : (p : Power) → odd p ≡ false → sign (minus-sign p) ≡ p
-even-sign p e = sym (power-adds .right (sign (minus-sign p))) ∙ ap (λ b. sign (minus-sign p) + one b) (sym e) ∙ law p
+even-sign p e = sym (power-adds .right (sign (minus-sign p))) ∙ ap (λ b. sign (minus-sign p) ⊞ one b) (sym e) ∙ law p
   where
     one : Bool → Power
     one false = i0
     one true = i1
 
-    law : (p : Power) → sign (minus-sign p) + one (odd p) ≡ p
+    law : (p : Power) → sign (minus-sign p) ⊞ one (odd p) ≡ p
     law = tested (pow ∷ []) pow _ _ tt

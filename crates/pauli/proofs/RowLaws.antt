@@ -4,7 +4,7 @@ use mathlib.Core.Path.{_≡_, refl, sym, _∙_, ap}
 use mathlib.Core.Bool.{Bool, true, false}
 use mathlib.Core.List.{[], _∷_}
 use Prim.Native.Nat.{ℕ, zero, suc}
-use Rattle.pauli.specs.Letters.{Letter, Power, i0, _⊕_, _+_, sign, odd, _·_, power, differ}
+use Rattle.pauli.specs.Letters.{Letter, Power, i0, _⊕_, _⊞_, sign, odd, _·_, power, differ}
 use Rattle.pauli.specs.Rows.{Letters, anticommute, total, mul, Phased, product, Row, phased, minus-sign, times-row}
 use Rattle.pauli.proofs.Cases.{tested, bit, ltr, pow}
 use Rattle.pauli.proofs.Sums.{sum-cong, sum-plus, sum-map, sum-zero}
@@ -23,23 +23,23 @@ pub anticommute-mul : (n : ℕ) (r s t : Letters) → anticommute n (mul r s) t 
 anticommute-mul n r s t = sum-cong xor-adds _ _ n (λ i b. differ-mul (r i) (s i) (t i)) ∙ sum-plus xor-adds _ _ n
 
 pub total-odd : (n : ℕ) (r s : Letters) → odd (total n r s) ≡ anticommute n r s
-total-odd n r s = sum-map i0 _+_ false _⊕_ odd refl odd-plus _ n ∙ sum-cong xor-adds _ _ n (λ i b. power-odd (r i) (s i))
+total-odd n r s = sum-map i0 _⊞_ false _⊕_ odd refl odd-plus _ n ∙ sum-cong xor-adds _ _ n (λ i b. power-odd (r i) (s i))
 
-pub total-swap : (n : ℕ) (r s : Letters) → total n r s ≡ total n s r + sign (anticommute n r s)
+pub total-swap : (n : ℕ) (r s : Letters) → total n r s ≡ total n s r ⊞ sign (anticommute n r s)
 total-swap n r s =
     sum-cong power-adds _ _ n (λ i b. power-swap (r i) (s i)) ∙ sum-plus power-adds _ _ n
-    ∙ ap (λ p. total n s r + p) (sym (sum-map false _⊕_ i0 _+_ sign refl sign-plus _ n))
+    ∙ ap (λ p. total n s r ⊞ p) (sym (sum-map false _⊕_ i0 _⊞_ sign refl sign-plus _ n))
 
-pub total-assoc : (n : ℕ) (r s t : Letters) → total n r s + total n (mul r s) t ≡ total n s t + total n r (mul s t)
+pub total-assoc : (n : ℕ) (r s t : Letters) → total n r s ⊞ total n (mul r s) t ≡ total n s t ⊞ total n r (mul s t)
 total-assoc n r s t = sym (sum-plus power-adds _ _ n) ∙ sum-cong power-adds _ _ n (λ i b. power-assoc (r i) (s i) (t i)) ∙ sum-plus power-adds _ _ n
 
-regroup : (p q r a b c d : Power) → a + b ≡ c + d → p + q + a + r + b ≡ p + (q + r + c) + d
+regroup : (p q r a b c d : Power) → a ⊞ b ≡ c ⊞ d → p ⊞ q ⊞ a ⊞ r ⊞ b ≡ p ⊞ (q ⊞ r ⊞ c) ⊞ d
 regroup p q r a b c d e = rw (left-side p q r a b, e, right-side p q r c d)
   where
-    left-side : (p q r a b : Power) → p + q + a + r + b ≡ p + q + r + (a + b)
+    left-side : (p q r a b : Power) → p ⊞ q ⊞ a ⊞ r ⊞ b ≡ p ⊞ q ⊞ r ⊞ (a ⊞ b)
     left-side = tested (pow ∷ pow ∷ pow ∷ pow ∷ pow ∷ []) pow _ _ tt
 
-    right-side : (p q r c d : Power) → p + (q + r + c) + d ≡ p + q + r + (c + d)
+    right-side : (p q r c d : Power) → p ⊞ (q ⊞ r ⊞ c) ⊞ d ≡ p ⊞ q ⊞ r ⊞ (c ⊞ d)
     right-side = tested (pow ∷ pow ∷ pow ∷ pow ∷ pow ∷ []) pow _ _ tt
 
 pub product-assoc : (n : ℕ) (r s t : Phased) → product n (product n r s) t ≡ product n r (product n s t)
@@ -52,14 +52,14 @@ product-assoc n r s t =
 pub times-minus : (n : ℕ) (r s : Row) → times-row n r s .minus ≡ r .minus ⊕ s .minus ⊕ minus-sign (total n (r .letters) (s .letters))
 times-minus n r s = law (r .minus) (s .minus) (total n (r .letters) (s .letters))
   where
-    law : (a b : Bool) (p : Power) → minus-sign (sign a + sign b + p) ≡ a ⊕ b ⊕ minus-sign p
+    law : (a b : Bool) (p : Power) → minus-sign (sign a ⊞ sign b ⊞ p) ≡ a ⊕ b ⊕ minus-sign p
     law = tested (bit ∷ bit ∷ pow ∷ []) bit _ _ tt
 
 -- the total of commuting rows is even, signs included
 pub product-even : (n : ℕ) (r s : Row) → odd (product n (phased r) (phased s) .phase) ≡ anticommute n (r .letters) (s .letters)
 product-even n r s = law (r .minus) (s .minus) (total n (r .letters) (s .letters)) ∙ total-odd n (r .letters) (s .letters)
   where
-    law : (a b : Bool) (p : Power) → odd (sign a + sign b + p) ≡ odd p
+    law : (a b : Bool) (p : Power) → odd (sign a ⊞ sign b ⊞ p) ≡ odd p
     law = tested (bit ∷ bit ∷ pow ∷ []) bit _ _ tt
 
 -- so the row that is their product has the product's own power of i

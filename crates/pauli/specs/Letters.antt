@@ -39,13 +39,13 @@ next i1 = i2
 next i2 = i3
 next i3 = i0
 
-infixl 40 _+_
+infixl 40 _⊞_
 -- powers are summed modulo four
-abbrev pub _+_ : Power → Power → Power
-i0 + q = q
-i1 + q = next q
-i2 + q = next (next q)
-i3 + q = next (next (next q))
+abbrev pub _⊞_ : Power → Power → Power
+i0 ⊞ q = q
+i1 ⊞ q = next q
+i2 ⊞ q = next (next q)
+i3 ⊞ q = next (next (next q))
 
 -- a minus sign adds two
 abbrev pub sign : Bool → Power

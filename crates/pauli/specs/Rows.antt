@@ -1,7 +1,7 @@
 -- Rows of n letters with a sign, their product and when they commute: document 01, "Rows and their products". Assumes nothing.
 use mathlib.Core.Bool.{Bool, true, false}
 use Prim.Native.Nat.{ℕ}
-use Rattle.pauli.specs.Letters.{Letter, I, Power, i0, i1, i2, i3, _⊕_, _+_, sign, _·_, power, differ}
+use Rattle.pauli.specs.Letters.{Letter, I, Power, i0, i1, i2, i3, _⊕_, _⊞_, sign, _·_, power, differ}
 use Rattle.pauli.specs.Sums.{sum}
 
 -- a letter for each qubit: of a row of n letters the first n count
@@ -14,7 +14,7 @@ odd-number = sum false _⊕_
 
 -- powers of i, summed modulo four over the first n places
 abbrev pub sum-powers : (ℕ → Power) → ℕ → Power
-sum-powers = sum i0 _+_
+sum-powers = sum i0 _⊞_
 
 -- rows commute exactly when an even number of places hold two different letters, neither being I
 abbrev pub anticommute : ℕ → Letters → Letters → Bool
@@ -34,7 +34,7 @@ pub record Phased : Type 0 where
 
 -- the powers are summed modulo four
 abbrev pub product : ℕ → Phased → Phased → Phased
-product n r s = record { phase = r .phase + s .phase + total n (r .letters) (s .letters); letters = mul (r .letters) (s .letters) }
+product n r s = record { phase = r .phase ⊞ s .phase ⊞ total n (r .letters) (s .letters); letters = mul (r .letters) (s .letters) }
 
 -- a row is a sign and n letters
 pub record Row : Type 0 where

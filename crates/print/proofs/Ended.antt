@@ -13,18 +13,18 @@ use Rattle.clifford.specs.declared.Op.the-variants.{Gate as apply, Measure as m
 use Rattle.clifford.specs.Measurement.{random-row}
 use Rattle.clifford.specs.Run.{State, settle, step, run, begin}
 use Rattle.circuit.specs.Text.{Circuit, meaning, count-measured}
-use Rattle.checking.specs.Promises.{Accepts}
+use Rattle.checking.specs.parts.Promises.{Accepts}
 use Rattle.checking.proofs.Meant.{parts}
 use Rattle.records.specs.Record.{mark, rows-text, trailer, record-with, record-of, record-length}
 use Rattle.records.proofs.Lengths.{square-below}
 use Rattle.run.specs.Run.{Sheet, sheet, run-circuit, run-of, numbers, buffer-after, Runs}
-use Rattle.walking.specs.Walk.{lines-of, or-none}
+use Rattle.walking.specs.parts.Walk.{lines-of, or-none}
 use Rattle.walking.proofs.Counting.{run-count}
 use Rattle.run.proofs.Sheets.{may-size}
-use Rattle.lines.specs.Line.{refusal-line}
+use Rattle.print_lines.specs.Line.{refusal-line}
 use Rattle.print.specs.declared.Shape.the-variants as shape
 use Rattle.print.specs.Printed.{run-lines, or-refusal, printed}
-use Rattle.print.specs.Sheets.{sheet-lines, Ready, Answered}
+use Rattle.print.specs.parts.Sheets.{sheet-lines, Ready, Answered}
 use Rattle.print.proofs.Sheets.{sheet-is}
 
 -- a run is refused by 7 alone
@@ -60,7 +60,7 @@ module _ (text coins old : List ℕ) (n count measured body : ℕ) (a : Accepts 
   abbrev ended : Verdict State
   ended = run (a .circuit .qubits) 2 (a .circuit .ops) (begin (a .circuit .qubits) coins)
 
-  run-is : (v : Verdict State) → ended ≡ v → run-of text coins (length old) ≡ then v (λ e. accepted (sheet (a .circuit .qubits) e))
+  run-is : (v : Verdict State) → ended ≡ v → run-of text coins (length old) ≡ then v (λ e. accepted (sheet (a .circuit .qubits) coins e))
   unfolding run-of run-circuit
   run-is v q =
       let w = may-size text n count measured body a in
@@ -68,7 +68,7 @@ module _ (text coins old : List ℕ) (n count measured body : ℕ) (a : Accepts 
       omega (arith, w, room, a .qubits-is, a .measured-is, square-below (a .circuit .qubits) (omega (arith, w, a .qubits-is))) in
       ap (λ (m : Verdict Circuit). then m (λ c. unless (leb (record-length (c .qubits) (count-measured (c .ops))) (length old)) 8 0 (run-circuit c coins))) (a .meant)
       ∙ ap (λ b. unless b 8 0 (run-circuit (a .circuit) coins)) (le-leb (record-length (a .circuit .qubits) (count-measured (a .circuit .ops))) (length old) fits)
-      ∙ ap (λ (u : Verdict State). then u (λ e. accepted (sheet (a .circuit .qubits) e))) q
+      ∙ ap (λ (u : Verdict State). then u (λ e. accepted (sheet (a .circuit .qubits) coins e))) q
 
   printed-is : (v : Verdict State) → ended ≡ v → printed text coins ≡ or-refusal (then v (λ e. accepted (run-lines (a .circuit) e)))
   unfolding printed
@@ -107,7 +107,7 @@ module _ (text coins old : List ℕ) (n count measured body : ℕ) (a : Accepts 
         ∙ sym (sheet-is (a .circuit .ops) m (e .outcomes) (e .rows) new (end ++ tail) (omega (arith, c)) held)
         ∙ ap₂ (λ (ops : List Op) (k : ℕ). sheet-lines ops k new) (sym lines-are) (sym (a .qubits-is))
 
-    told : (v : Verdict State) → ended ≡ v → answer ≡ numbers (then v (λ e. accepted (sheet (a .circuit .qubits) e)))
+    told : (v : Verdict State) → ended ≡ v → answer ≡ numbers (then v (λ e. accepted (sheet (a .circuit .qubits) coins e)))
     told v q = w .answers ∙ ap numbers (run-is v q)
 
     pub ran : length new ≡ length old → getD answer 0 0 ≡ 0 → Answered text coins (shape.Ran n body) new

@@ -20,9 +20,9 @@ use Rattle.circuit.specs.Text.{Circuit, meaning}
 use Rattle.checking.proofs.Meant.{parts}
 use Rattle.records.specs.Record.{joined}
 use Rattle.records.proofs.Lengths.{length-row-text, length-joined}
-use Rattle.lines.specs.Line.{digits-of, decimal, outcome-line, refused-word, refusal-line}
-use Rattle.lines.proofs.Digits.{digits-few}
-use Rattle.lines.proofs.Putting.{kind-few}
+use Rattle.print_lines.specs.Line.{digits-of, decimal, outcome-line, refused-word, refusal-line}
+use Rattle.print_lines.proofs.Digits.{digits-few}
+use Rattle.print_lines.proofs.Putting.{kind-few}
 use Rattle.print.specs.Printed.{outcome-lines, row-line, row-lines, run-lines, or-refusal, printed, first-line, behind-first-line, too-long, shot-printed}
 use Rattle.print.proofs.Printing.{spaced-last, spaced-more, line-length}
 

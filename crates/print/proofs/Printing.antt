@@ -7,25 +7,26 @@ use native.Mathlib.Numerals.{add-one}
 use native.Mathlib.Omega.{arith}
 use lib.ListN.{length, getD, take, drop, length-append, length-drop}
 use lib.Seq.{take-all}
+use Rattle.clifford.specs.Limits.{most-operations}
 use Rattle.answers.specs.Verdict.{accepted}
 use Rattle.clifford.specs.declared.Op.{Op}
 use Rattle.clifford.specs.declared.Op.the-variants.{Gate as apply, Measure as measure}
 use Rattle.clifford.specs.Measurement.{Outcome}
 use Rattle.circuit.specs.Lines.{op-line, malformed}
-use Rattle.circuit.specs.Reading.{Stands}
-use Rattle.circuit.specs.Text.{operations, most-operations, measures, count-measured}
+use Rattle.circuit.specs.parts.Reading.{Stands}
+use Rattle.circuit.specs.Text.{operations, measures, count-measured}
 use Rattle.circuit.proofs.Positions.{front}
 use Rattle.circuit.proofs.Walk.{next-at, never-malformed, none-left, within-room}
-use Rattle.circuit_writer.specs.Writing.{Stores}
+use Rattle.circuit_writer.specs.parts.Storing.{Stores}
 use Rattle.circuit_writer.proofs.Storing.{stored-then, stored-as}
 use Rattle.records.proofs.Lengths.{square-below}
-use Rattle.walking.specs.Walk.{lines-of}
-use Rattle.lines.specs.Line.{spaced, decimal, kind-word, value-word, outcome-line}
-use Rattle.lines.specs.Rows.{parts-closed}
-use Rattle.lines.proofs.Digits.{digits-few}
-use Rattle.lines.proofs.Putting.{kind-few, value-one, put-nothing}
+use Rattle.walking.specs.parts.Walk.{lines-of}
+use Rattle.print_lines.specs.Line.{spaced, decimal, kind-word, value-word, outcome-line}
+use Rattle.print_lines.specs.Rows.{parts-closed}
+use Rattle.print_lines.proofs.Digits.{digits-few}
+use Rattle.print_lines.proofs.Putting.{kind-few, value-one, put-nothing}
 use Rattle.print.specs.Printed.{outcome-lines}
-use Rattle.print.specs.Sheets.{outcome-of, op-text, sheet-lines, Ready}
+use Rattle.print.specs.parts.Sheets.{outcome-of, op-text, sheet-lines, Ready}
 
 -- how long an outcome line is
 pub spaced-last : (w : List ℕ) → length (spaced w []) ≡ length w + 1

@@ -17,10 +17,10 @@ use Rattle.circuit.specs.Text.{count-measured}
 use Rattle.records.specs.Record.{mark, mark-of, joined, rows-text}
 use Rattle.records.proofs.Joined.{listed-split, joined-append, block}
 use Rattle.records.proofs.Lengths.{length-row-text, length-joined}
-use Rattle.lines.specs.Line.{outcome-line}
-use Rattle.lines.specs.Rows.{parts-closed}
+use Rattle.print_lines.specs.Line.{outcome-line}
+use Rattle.print_lines.specs.Rows.{parts-closed}
 use Rattle.print.specs.Printed.{outcome-lines, row-line, row-lines}
-use Rattle.print.specs.Sheets.{outcome-of, sheet-lines}
+use Rattle.print.specs.parts.Sheets.{outcome-of, sheet-lines}
 
 -- a character tells its outcome
 mark-back : (random value : Bool) → outcome-of (mark-of random value) ≡ record { random = random; value = value }

@@ -17,9 +17,9 @@ use Rattle.answers.specs.Refusals.{Writes}
 use Rattle.answers.proofs.Answered.{has-no-room, has-written}
 use Rattle.answers.proofs.Known.{writes-one}
 use Rattle.circuit.proofs.Positions.{front, past}
-use Rattle.circuit_writer.specs.Writing.{Stores}
+use Rattle.circuit_writer.specs.parts.Storing.{Stores}
 use Rattle.print.specs.Printed.{first-line, behind-first-line, printed, too-long, shot-printed}
-use Rattle.print.specs.Sheets.{Split}
+use Rattle.print.specs.parts.Sheets.{Split}
 
 -- no end byte among the first k bytes
 pub record Unended (input : List ℕ) (k : ℕ) : Type 0 where

@@ -15,7 +15,7 @@ use Rattle.clifford.specs.Run.{State, run, begin}
 use Rattle.circuit.specs.Lines.{end-byte}
 use Rattle.circuit.specs.Text.{Circuit, meaning}
 use Rattle.records.specs.Record.{joined}
-use Rattle.lines.specs.Line.{outcome-line, refusal-line}
+use Rattle.print_lines.specs.Line.{outcome-line, refusal-line}
 
 -- the operations in order, the first of them on this line: each measurement takes the next outcome
 abbrev pub outcome-lines : ℕ → List Op → List Outcome → List ℕ

@@ -6,10 +6,10 @@ ghost use lib.ListN.{length};
 ghost use Rattle.answers.specs.Verdict.{accepted};
 ghost use Rattle.answers.specs.Refusals.{Writes};
 ghost use Rattle.circuit.specs.Text.{measures};
-ghost use Rattle.circuit_writer.specs.Writing.{Stores};
-ghost use Rattle.walking.specs.Walk.{lines-of};
+ghost use Rattle.circuit_writer.specs.parts.Storing.{Stores};
+ghost use Rattle.walking.specs.parts.Walk.{lines-of};
 ghost use Rattle.print.specs.Printed.{printed, too-long, shot-printed};
-ghost use Rattle.print.specs.Sheets.{outcome-of, op-text, sheet-lines, Ready, ReadyAs, shape-lines, Answered, Split};
+ghost use Rattle.print.specs.parts.Sheets.{outcome-of, op-text, sheet-lines, Ready, ReadyAs, shape-lines, Answered, Split};
 use answers::Refusal;
 use answers::Written;
 use checking::Scanned;
@@ -40,7 +40,7 @@ fn put_op(out: &mut [u8], at: usize, line: usize, op: Op, mark: u8) -> usize
         Op::Measure(a) => {
             let random = 50 <= mark;
             let value = mark % 2 == 1;
-            lines::put_outcome(out, at, line, a, random, value)
+            print_lines::put_outcome(out, at, line, a, random, value)
         }
     }
 }
@@ -66,7 +66,7 @@ fn put_run(out: &mut [u8], text: &[u8], body: usize, n: usize, sheet: &[u8]) -> 
             }
         }
     }
-    lines::put_rows(out, next, &sheet[k..], n + 1, n + n)
+    print_lines::put_rows(out, next, &sheet[k..], n + 1, n + n)
 }
 
 fn put_shape(out: &mut [u8], text: &[u8], shape: Shape, sheet: &[u8]) -> usize
@@ -75,7 +75,7 @@ fn put_shape(out: &mut [u8], text: &[u8], shape: Shape, sheet: &[u8]) -> usize
 {
     match shape {
         Shape::Ran { qubits, body } => put_run(out, text, body, qubits, sheet),
-        Shape::Refused(number, place) => lines::put_refusal(out, number, place),
+        Shape::Refused(number, place) => print_lines::put_refusal(out, number, place),
     }
 }
 
@@ -134,7 +134,7 @@ fn put_too_long(out: &mut [u8]) -> Written
     if out.len() < 15 {
         return Written::Refused(Refusal::NoRoom);
     }
-    Written::Bytes(lines::put_text(out, 0, b"input too long\n"))
+    Written::Bytes(print_lines::put_text(out, 0, b"input too long\n"))
 }
 
 pub fn shot(input: &[u8], out: &mut [u8]) -> Written

@@ -16,14 +16,14 @@ use Rattle.pauli.specs.Letters.{Power, odd}
 use Rattle.pauli.specs.Rows.{phased, product, anticommute, minus-sign, times-row}
 use Rattle.pauli.specs.Texts.{fits-at, spelled, row-text}
 use Rattle.pauli.proofs.RowLaws.{product-even}
-use Rattle.product.specs.Product.{lengths-fit, listed-at, first-bad, multiplied, product-of}
-use Rattle.product.specs.Parts.{number, Bad, letter-text}
+use Rattle.product.specs.Product.{lengths-fit, listed-at, first-bad-of-two, multiplied, product-of}
+use Rattle.product.specs.parts.Table.{power-number, Bad, letter-text}
 use Rattle.product.proofs.Laws.{number-odd, number-sign}
 
 module _ (first second : List ℕ) where
   -- 13
   refused-13 : lengths-fit first second ≡ false → product-of first second ≡ refused 13 0
-  refused-13 e = ap (λ b. unless b 13 0 (unless-at 10 (first-bad first second) (multiplied (length first - 1) first second))) e
+  refused-13 e = ap (λ b. unless b 13 0 (unless-at 10 (first-bad-of-two first second) (multiplied (length first - 1) first second))) e
 
   and-false : (a b : Bool) → b ≡ false → (a && b) ≡ false
   and-false true b e = e
@@ -39,10 +39,10 @@ module _ (first second : List ℕ) where
   long-13 h = refused-13 (and-false (eqb (length first) (length second) && leb 2 (length first)) (leb (length first) 65) (lt-leb (length first) 65 h))
 
   module _ (same : length first ≡ length second) (least : 2 ≤ length first) (most : length first ≤ 65) where
-    fit : product-of first second ≡ (unless-at 10 (first-bad first second) (multiplied (length first - 1) first second))
+    fit : product-of first second ≡ (unless-at 10 (first-bad-of-two first second) (multiplied (length first - 1) first second))
     fit =
         let e : lengths-fit first second ≡ true = rw (eq-eqb (length first) (length second) same, le-leb 2 (length first) least, le-leb (length first) 65 most) in
-        ap (λ b. unless b 13 0 (unless-at 10 (first-bad first second) (multiplied (length first - 1) first second))) e
+        ap (λ b. unless b 13 0 (unless-at 10 (first-bad-of-two first second) (multiplied (length first - 1) first second))) e
 
     at-first : (k : ℕ) → k < length first → listed-at first second k ≡ fits-at k (getD first k 0)
     at-first k h = rw (lt-ltb k (length first) h)
@@ -90,7 +90,7 @@ module _ (first second : List ℕ) where
       listed = fit ∙ ap (λ o. unless-at 10 o (multiplied (length first - 1) first second))
           (lowest-none (λ i. not (listed-at first second i)) (length first + length second) (λ i l. either k m a b ka i (omega arith)))
 
-      module _ (sum : ℕ) (is : sum % 4 ≡ number (product (length first - 1) (phased (spelled first)) (phased (spelled second)) .phase)) where
+      module _ (sum : ℕ) (is : sum % 4 ≡ power-number (product (length first - 1) (phased (spelled first)) (phased (spelled second)) .phase)) where
         anti : anticommute (length first - 1) (spelled first .letters) (spelled second .letters) ≡ eqb (sum % 2) 1
         anti =
             let e : sum % 2 ≡ sum % 4 % 2 = omega arith in

@@ -11,13 +11,13 @@ use lib.Seq.{drop-set-lt}
 use borrow.Author.Tests.{eqb-true}
 use Rattle.answers.specs.Verdict.{over}
 use Rattle.answers.proofs.Writing.{written, written-more, written-all, length-written}
-use Rattle.pauli.specs.Letters.{Letter, I, X, Y, Z, Power, i0, i1, i2, i3, _+_ as _⊞_, sign, odd, _·_, power}
+use Rattle.pauli.specs.Letters.{Letter, I, X, Y, Z, Power, i0, i1, i2, i3, _⊞_, sign, odd, _·_, power}
 use Rattle.pauli.specs.Rows.{Letters, total, mul, Phased, phased, product, minus-sign}
 use Rattle.pauli.specs.Texts.{letter-byte, letter-of, sign-byte, spelled, fits-at}
 use Rattle.pauli.proofs.Cases.{tested, bit, ltr}
 use Rattle.pauli.proofs.LetterLaws.{power-adds, add-assoc}
 use Rattle.pauli.proofs.Listed.{length-listed, getD-listed}
-use Rattle.product.specs.Parts.{code-of, number, letter-text}
+use Rattle.product.specs.parts.Table.{code-of, power-number, letter-text}
 
 -- ---- the table
 
@@ -30,7 +30,7 @@ both true b e = (refl, e)
 both false b e = absurd (true≢false (sym e))
 
 -- the test over all sixteen entries
-right : (a b : Letter) → (eqb (getD products (8 * code-of a + 2 * code-of b) 0) (letter-byte (a · b)) && eqb (getD products (8 * code-of a + 2 * code-of b + 1) 0) (48 + number (power a b))) ≡ true
+right : (a b : Letter) → (eqb (getD products (8 * code-of a + 2 * code-of b) 0) (letter-byte (a · b)) && eqb (getD products (8 * code-of a + 2 * code-of b + 1) 0) (48 + power-number (power a b))) ≡ true
 unfolding products
 right = tested (ltr ∷ ltr ∷ []) bit _ _ tt
 
@@ -38,14 +38,14 @@ module _ (a b : Letter) where
   abbrev place : ℕ
   place = 8 * code-of a + 2 * code-of b
 
-  passed : (eqb (getD products place 0) (letter-byte (a · b)) ≡ true) × (eqb (getD products (place + 1) 0) (48 + number (power a b)) ≡ true)
-  passed = both (eqb (getD products place 0) (letter-byte (a · b))) (eqb (getD products (place + 1) 0) (48 + number (power a b))) (right a b)
+  passed : (eqb (getD products place 0) (letter-byte (a · b)) ≡ true) × (eqb (getD products (place + 1) 0) (48 + power-number (power a b)) ≡ true)
+  passed = both (eqb (getD products place 0) (letter-byte (a · b))) (eqb (getD products (place + 1) 0) (48 + power-number (power a b))) (right a b)
 
   pub letter-right : getD products (8 * code-of a + 2 * code-of b) 0 ≡ letter-byte (a · b)
   letter-right = eqb-true (getD products place 0) (letter-byte (a · b)) (passed .0)
 
-  pub power-right : getD products (8 * code-of a + 2 * code-of b + 1) 0 ≡ 48 + number (power a b)
-  power-right = eqb-true (getD products (place + 1) 0) (48 + number (power a b)) (passed .1)
+  pub power-right : getD products (8 * code-of a + 2 * code-of b + 1) 0 ≡ 48 + power-number (power a b)
+  power-right = eqb-true (getD products (place + 1) 0) (48 + power-number (power a b)) (passed .1)
 
 pub code-below : (l : Letter) → code-of l ≤ 3
 code-below I = omega arith
@@ -55,32 +55,32 @@ code-below Z = omega arith
 
 -- ---- powers as numbers
 
-pub number-below : (p : Power) → number p ≤ 3
+pub number-below : (p : Power) → power-number p ≤ 3
 number-below i0 = omega arith
 number-below i1 = omega arith
 number-below i2 = omega arith
 number-below i3 = omega arith
 
-number-plus : (p q : Power) → (number p + number q) % 4 ≡ number (p ⊞ q)
+number-plus : (p q : Power) → (power-number p + power-number q) % 4 ≡ power-number (p ⊞ q)
 number-plus i0 = elim [ i0 ↦ refl | i1 ↦ refl | i2 ↦ refl | i3 ↦ refl ]
 number-plus i1 = elim [ i0 ↦ refl | i1 ↦ refl | i2 ↦ refl | i3 ↦ refl ]
 number-plus i2 = elim [ i0 ↦ refl | i1 ↦ refl | i2 ↦ refl | i3 ↦ refl ]
 number-plus i3 = elim [ i0 ↦ refl | i1 ↦ refl | i2 ↦ refl | i3 ↦ refl ]
 
-pub number-more : (sum : ℕ) (p q : Power) → sum % 4 ≡ number p → (sum + number q) % 4 ≡ number (p ⊞ q)
-number-more sum p q e = carry sum (number q) (number p) e ∙ number-plus p q
+pub number-more : (sum : ℕ) (p q : Power) → sum % 4 ≡ power-number p → (sum + power-number q) % 4 ≡ power-number (p ⊞ q)
+number-more sum p q e = carry sum (power-number q) (power-number p) e ∙ number-plus p q
   where
     carry : (s x y : ℕ) → s % 4 ≡ y → (s + x) % 4 ≡ (y + x) % 4
     carry s x y e = omega arith
 
-pub number-odd : (p : Power) → eqb (number p % 2) 1 ≡ odd p
+pub number-odd : (p : Power) → eqb (power-number p % 2) 1 ≡ odd p
 number-odd i0 = refl
 number-odd i1 = refl
 number-odd i2 = refl
 number-odd i3 = refl
 
 -- an even power is minus exactly where it is two
-pub number-sign : (p : Power) → odd p ≡ false → eqb (number p) 2 ≡ minus-sign p
+pub number-sign : (p : Power) → odd p ≡ false → eqb (power-number p) 2 ≡ minus-sign p
 number-sign i0 e = refl
 number-sign i1 e = absurd (true≢false e)
 number-sign i2 e = refl
@@ -115,16 +115,16 @@ phase-below first second m = sign (spelled first .minus) ⊞ sign (spelled secon
 pub record Summed (first second : List ℕ) (sum k : ℕ) : Type 0 where
   pub least : 1 ≤ k
   pub most : sum ≤ 4 + 3 * k
-  pub is : sum % 4 ≡ number (phase-below first second (k - 1))
+  pub is : sum % 4 ≡ power-number (phase-below first second (k - 1))
 
-pub sum-none : (first second : List ℕ) (a b : ℕ) → a ≡ number (sign (eqb (getD first 0 0) 45)) → b ≡ number (sign (eqb (getD second 0 0) 45)) → Summed first second (a + b) 1
+pub sum-none : (first second : List ℕ) (a b : ℕ) → a ≡ power-number (sign (eqb (getD first 0 0) 45)) → b ≡ power-number (sign (eqb (getD second 0 0) 45)) → Summed first second (a + b) 1
 sum-none first second a b ea eb = record {
   least = omega arith;
   most = omega (arith, number-below (sign (eqb (getD first 0 0) 45)), number-below (sign (eqb (getD second 0 0) 45)));
-  is = rw (ea, eb) (number-plus (sign (eqb (getD first 0 0) 45)) (sign (eqb (getD second 0 0) 45)) ∙ ap number (sym (power-adds .right (sign (eqb (getD first 0 0) 45) ⊞ sign (eqb (getD second 0 0) 45)))));
+  is = rw (ea, eb) (number-plus (sign (eqb (getD first 0 0) 45)) (sign (eqb (getD second 0 0) 45)) ∙ ap power-number (sym (power-adds .right (sign (eqb (getD first 0 0) 45) ⊞ sign (eqb (getD second 0 0) 45)))));
 }
 
-pub sum-more : (first second : List ℕ) (sum k x : ℕ) → Summed first second sum k → x ≡ number (power (letter-of (getD first k 0)) (letter-of (getD second k 0))) → Summed first second (sum + x) (k + 1)
+pub sum-more : (first second : List ℕ) (sum k x : ℕ) → Summed first second sum k → x ≡ power-number (power (letter-of (getD first k 0)) (letter-of (getD second k 0))) → Summed first second (sum + x) (k + 1)
 sum-more first second sum zero x s e = absurd (omega (arith, s .least))
 sum-more first second sum (suc k) x s e = record {
   least = omega arith;
@@ -132,9 +132,9 @@ sum-more first second sum (suc k) x s e = record {
   is =
       let u : suc k - 1 ≡ k = omega arith in
       let v : suc k + 1 - 1 ≡ suc k = omega arith in
-      let w : sum % 4 ≡ number (phase-below first second k) = s .is ∙ ap (λ (m : ℕ). number (phase-below first second m)) u in
+      let w : sum % 4 ≡ power-number (phase-below first second k) = s .is ∙ ap (λ (m : ℕ). power-number (phase-below first second m)) u in
       rw (e, v) (number-more sum (phase-below first second k) (power (letter-of (getD first (suc k) 0)) (letter-of (getD second (suc k) 0))) w
-      ∙ ap number (add-assoc (sign (spelled first .minus) ⊞ sign (spelled second .minus)) (total k (spelled first .letters) (spelled second .letters)) (power (letter-of (getD first (suc k) 0)) (letter-of (getD second (suc k) 0)))));
+      ∙ ap power-number (add-assoc (sign (spelled first .minus) ⊞ sign (spelled second .minus)) (total k (spelled first .letters) (spelled second .letters)) (power (letter-of (getD first (suc k) 0)) (letter-of (getD second (suc k) 0)))));
 }
 
 -- ---- the written text

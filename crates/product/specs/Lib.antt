@@ -1,2 +1,2 @@
 pub mod Product
-pub mod Parts
+pub mod parts

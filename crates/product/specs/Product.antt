@@ -10,9 +10,13 @@ use Rattle.answers.specs.Verdict.{Verdict, accepted, unless, unless-at}
 use Rattle.pauli.specs.Rows.{anticommute, times-row}
 use Rattle.pauli.specs.Texts.{fits-at, row-text, spelled}
 
+-- the longest row text: a sign and 64 letters
+abbrev pub longest-row : ℕ
+longest-row = 65
+
 -- 13: lengths differ, or not 2 to 65 bytes
 abbrev pub lengths-fit : List ℕ → List ℕ → Bool
-lengths-fit first second = eqb (length first) (length second) && leb 2 (length first) && leb (length first) 65
+lengths-fit first second = eqb (length first) (length second) && leb 2 (length first) && leb (length first) longest-row
 
 -- the byte at this place, counted through the first row, then the second, is one listed
 abbrev pub listed-at : List ℕ → List ℕ → ℕ → Bool
@@ -20,8 +24,8 @@ listed-at first second k =
     cond (ltb k (length first)) (fits-at k (getD first k 0)) (fits-at (k - length first) (getD second (k - length first) 0))
 
 -- 10: the first byte that is not
-abbrev pub first-bad : List ℕ → List ℕ → Option ℕ
-first-bad first second = lowest (λ k. not (listed-at first second k)) (length first + length second)
+abbrev pub first-bad-of-two : List ℕ → List ℕ → Option ℕ
+first-bad-of-two first second = lowest (λ k. not (listed-at first second k)) (length first + length second)
 
 -- 12: the rows anticommute; else their product
 abbrev pub multiplied : ℕ → List ℕ → List ℕ → Verdict (List ℕ)
@@ -30,4 +34,4 @@ multiplied n first second =
     (accepted (row-text n (times-row n (spelled first) (spelled second))))
 
 abbrev pub product-of : List ℕ → List ℕ → Verdict (List ℕ)
-product-of first second = unless (lengths-fit first second) 13 0 (unless-at 10 (first-bad first second) (multiplied (length first - 1) first second))
+product-of first second = unless (lengths-fit first second) 13 0 (unless-at 10 (first-bad-of-two first second) (multiplied (length first - 1) first second))

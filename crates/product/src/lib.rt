@@ -8,7 +8,7 @@ ghost use Rattle.answers.specs.Verdict.{over};
 ghost use Rattle.pauli.specs.Letters.{sign};
 ghost use Rattle.pauli.specs.Rows.{product, phased};
 ghost use Rattle.pauli.specs.Texts.{letter-of, fits-at, spelled, sign-byte};
-ghost use Rattle.product.specs.Parts.{code-of, number, Tabled, Bad, letter-text};
+ghost use Rattle.product.specs.parts.Table.{code-of, power-number, Tabled, Bad, letter-text};
 ghost use Rattle.product.specs.Product.{product-of};
 use answers::Refusal;
 use answers::Written;
@@ -69,7 +69,7 @@ fn bad(s: &[u8]) -> usize
 }
 
 fn minus(b: u8) -> u64
-    ensures { λ r. ⌜ r ≡ number (sign (eqb b 45)) ⌝ }
+    ensures { λ r. ⌜ r ≡ power-number (sign (eqb b 45)) ⌝ }
 {
     if b == 45 { 2 } else { 0 }
 }
@@ -83,7 +83,7 @@ fn wide(x: u8) -> u64
 // The power of i before the product: the letters' powers and two for each minus, not yet reduced.
 fn power_sum(first: &[u8], second: &[u8]) -> u64
     requires { ⌜ (length (now first) ≡ length (now second)) × (1 ≤ length (now first)) × (length (now first) ≤ 65) ⌝ }
-    ensures { λ r. ⌜ r % 4 ≡ number (product (length (now (first .entry)) - 1) (phased (spelled (now (first .entry)))) (phased (spelled (now (second .entry)))) .phase) ⌝ }
+    ensures { λ r. ⌜ r % 4 ≡ power-number (product (length (now (first .entry)) - 1) (phased (spelled (now (first .entry)))) (phased (spelled (now (second .entry)))) .phase) ⌝ }
 {
     let mut sum = minus(first[0]) + minus(second[0]);
     let mut k = 1;

@@ -17,19 +17,19 @@ use Rattle.answers.specs.Verdict.{Verdict, accepted, refused, unless, unless-at
 use Rattle.pauli.specs.Letters.{Letter, I, X, Z, letter}
 use Rattle.pauli.specs.Texts.{spelled}
 use Rattle.clifford.specs.Tableau.{blank, alone, start}
-use Rattle.packing.specs.View.{letter-at, row-at, group-rows, rows-of}
+use Rattle.packing.specs.View.{letter-at, row-at, group-rows, rows-of, Holds}
 use Rattle.records.specs.Record.{to-rows}
 use Rattle.records.specs.Reading.{Read, read-of, reading, ends-in-record, first-distance, second-distance, qubits-in, outcome-count, last-record, byte-fits, first-bad, first-wrong, row-in, rows-in}
 use Rattle.words.specs.Bit.{bit}
 use Rattle.words.proofs.BitLaws.{bit-zero, bit-pow}
-use Rattle.reading.specs.declared.Found.the-variants.{Record, Refused}
-use Rattle.reading.specs.declared.Sheet.{Sheet}
-use Rattle.reading.specs.Answer.{told, Besides, Within, Starts, rows-on, Reads, handed, in-numbers, Hands}
-use Rattle.reading.specs.Parts.{Refuses}
-use Rattle.loading.specs.Parts.{First, Holds, Loaded}
+use Rattle.reading.specs.declared.Last.the-variants.{Record, Refused}
+use Rattle.reading.specs.declared.Contents.{Contents}
+use Rattle.reading.specs.Answer.{told-read, Besides, Within, Starts, rows-on, Reads, handed, in-numbers, Hands}
+use Rattle.reading.specs.parts.Pairs.{Refuses}
+use Rattle.read_rows.specs.parts.Loading.{First, Loaded}
 use Rattle.records.proofs.Ending.{ending}
 use Rattle.reading.proofs.WrongPairs.{lower-wrong}
-use Rattle.loading.proofs.Places.{first-some, first-none}
+use Rattle.read_rows.proofs.Places.{first-some, first-none}
 
 -- ---- the verdict
 
@@ -95,9 +95,9 @@ module _ (s : List ℕ) (n near far : ℕ) (e : ends-in-record s ≡ true) (en :
             ∙ ap (λ (m : ℕ). accepted (record { qubits = n; size = m; marks = take count last; rows = rows-of n d t })) v
 
 -- a refusal is answered with its rows
-pub refusing : (s : List ℕ) (why : Refusal) (sheet : Sheet) → Refuses why sheet → read-of s ≡ refused (numberOf why) (placeOf why) → Reads s sheet
+pub refusing : (s : List ℕ) (why : Refusal) (sheet : Contents) → Refuses why sheet → read-of s ≡ refused (numberOf why) (placeOf why) → Reads s sheet
 refusing s why sheet r e = record {
-  answer = ap (told s (sheet .n) (rows-on sheet)) (r .found) ∙ sym e;
+  answer = ap (told-read s (sheet .n) (rows-on sheet)) (r .found) ∙ sym e;
   besides = subst (Besides s (sheet .n) (rows-on sheet)) (sym (r .found)) (r .starts);
   destabilizers = r .destabilizers;
   stabilizers = r .stabilizers;
@@ -105,14 +105,14 @@ refusing s why sheet r e = record {
 
 -- ---- what is handed out through lent arrays
 
-module _ (s : List ℕ) (sheet : Sheet) (r : Reads s sheet) where
+module _ (s : List ℕ) (sheet : Contents) (r : Reads s sheet) where
   module _ (from outcomes : ℕ) (f : sheet .found ≡ Record from outcomes) where
     pub within : Within s (sheet .n) from outcomes
     within = subst (Besides s (sheet .n) (rows-on sheet)) f (r .besides)
 
     pub hands-record : Hands s (take (from + outcomes - from) (drop from s)) (sheet .destabilizers) (sheet .stabilizers) (0 ∷ 0 ∷ (length s - from) ∷ sheet .n ∷ [])
     hands-record =
-        let v : told s (sheet .n) (rows-on sheet) (Record from outcomes) ≡ read-of s = ap (told s (sheet .n) (rows-on sheet)) (sym f) ∙ r .answer in
+        let v : told-read s (sheet .n) (rows-on sheet) (Record from outcomes) ≡ read-of s = ap (told-read s (sheet .n) (rows-on sheet)) (sym f) ∙ r .answer in
         let e : from + outcomes - from ≡ outcomes = omega arith in
         record {
           answer = ap in-numbers v;
@@ -125,7 +125,7 @@ module _ (s : List ℕ) (sheet : Sheet) (r : Reads s sheet) where
   pub hands-refused : (why : Refusal) (number place : ℕ) → sheet .found ≡ Refused why → number ≡ numberOf why → place ≡ placeOf why
       → Hands s [] (sheet .destabilizers) (sheet .stabilizers) (number ∷ place ∷ 0 ∷ 0 ∷ [])
   hands-refused why number place f a b =
-      let v : refused (numberOf why) (placeOf why) ≡ read-of s = ap (told s (sheet .n) (rows-on sheet)) (sym f) ∙ r .answer in
+      let v : refused (numberOf why) (placeOf why) ≡ read-of s = ap (told-read s (sheet .n) (rows-on sheet)) (sym f) ∙ r .answer in
       let o : Starts (sheet .n) (rows-on sheet) = subst (Besides s (sheet .n) (rows-on sheet)) f (r .besides) in
       record {
         answer = ap₂ (λ (p q : ℕ). p ∷ q ∷ 0 ∷ 0 ∷ []) a b ∙ ap in-numbers v;

@@ -8,14 +8,13 @@ use lib.Seq.{length-take-le}
 use Rattle.answers.specs.Verdict.{Verdict, accepted, refused}
 use Rattle.answers.proofs.Known.{one-refusal}
 use Rattle.clifford.specs.Tableau.{Rows, start}
-use Rattle.packing.specs.View.{rows-of}
+use Rattle.packing.specs.View.{rows-of, Holds}
 use Rattle.records.specs.Reading.{Read, read-of}
-use Rattle.loading.specs.Parts.{Holds}
-use Rattle.loading.proofs.OneGroup.{one-group}
-use Rattle.reading.specs.declared.Found.{Found}
-use Rattle.reading.specs.declared.Found.the-variants.{Record, Refused}
-use Rattle.reading.specs.declared.Sheet.{Sheet}
-use Rattle.reading.specs.Answer.{told, Besides, rows-on, Reads, handed, Hands}
+use Rattle.read_rows.proofs.OneGroup.{one-group}
+use Rattle.reading.specs.declared.Last.{Last}
+use Rattle.reading.specs.declared.Last.the-variants.{Record, Refused}
+use Rattle.reading.specs.declared.Contents.{Contents}
+use Rattle.reading.specs.Answer.{told-read, Besides, rows-on, Reads, handed, Hands}
 use Rattle.reading.proofs.WrongPairs.{accepted-most}
 
 -- two tableaux of the same rows
@@ -40,10 +39,10 @@ hands-one s part d t four part′ d′ t′ four′ a b =
 -- ---- sheets
 
 -- n and the rows of a sheet are those that are handed out
-held : (s : List ℕ) (a : Sheet) → Reads s a → (a .n ≡ handed (read-of s) .qubits) × (rows-on a ≡ handed (read-of s) .rows)
+held : (s : List ℕ) (a : Contents) → Reads s a → (a .n ≡ handed (read-of s) .qubits) × (rows-on a ≡ handed (read-of s) .rows)
 held s a r = go (a .found) (r .answer) (r .besides)
   where
-    go : (f : Found) → told s (a .n) (rows-on a) f ≡ read-of s → Besides s (a .n) (rows-on a) f → (a .n ≡ handed (read-of s) .qubits) × (rows-on a ≡ handed (read-of s) .rows)
+    go : (f : Last) → told-read s (a .n) (rows-on a) f ≡ read-of s → Besides s (a .n) (rows-on a) f → (a .n ≡ handed (read-of s) .qubits) × (rows-on a ≡ handed (read-of s) .rows)
     go (Record from outcomes) e b = (ap (λ v. handed v .qubits) e, ap (λ v. handed v .rows) e)
     go (Refused why) e b = (b .one ∙ ap (λ v. handed v .qubits) e, b .start ∙ ap (λ v. handed v .rows) e)
 
@@ -51,7 +50,7 @@ module _ (s : List ℕ) (n : ℕ) (rows : Rows) where
   never : {A : Type 0} (r : Read) (number place : ℕ) → accepted r ≡ refused number place → A
   never r number place e = let z : _≡_ {A = ℕ} 0 1 = cc in absurd (omega arith)
 
-  one-found : (f g : Found) → told s n rows f ≡ told s n rows g → Besides s n rows f → Besides s n rows g → f ≡ g
+  one-found : (f g : Last) → told-read s n rows f ≡ told-read s n rows g → Besides s n rows f → Besides s n rows g → f ≡ g
   one-found (Record from outcomes) (Record from′ outcomes′) e a b =
       let sizes : length s - from ≡ length s - from′ = ap (λ v. handed v .size) e in
       let p : from ≡ from′ = omega (arith, a .inside, b .inside) in
@@ -72,7 +71,7 @@ module _ (s : List ℕ) (n : ℕ) (rows : Rows) where
       place-of (accepted r) = 0
       place-of (refused number place) = place
 
-pub reads-one : (s : List ℕ) (a b : Sheet) → Reads s a → Reads s b → a ≡ b
+pub reads-one : (s : List ℕ) (a b : Contents) → Reads s a → Reads s b → a ≡ b
 reads-one s a b ra rb =
     let ha = held s a ra in
     let hb = held s b rb in
@@ -83,5 +82,5 @@ reads-one s a b ra rb =
     let k = one-tableau (a .n) (a .destabilizers) (a .stabilizers) (b .destabilizers) (b .stabilizers) (subst (λ (m : ℕ). m ≤ 64) (sym (ha .0)) (few-qubits s)) (ra .destabilizers) (ra .stabilizers) hd ht
     (rows ∙ ap (λ (m : ℕ). rows-of m (b .destabilizers) (b .stabilizers)) (sym n)) in
     let bb : Besides s (a .n) (rows-on a) (b .found) = subst (λ (m : ℕ). Besides s m (rows-on a) (b .found)) (sym n) (subst (λ (r : Rows). Besides s (b .n) r (b .found)) (sym rows) (rb .besides)) in
-    let f : a .found ≡ b .found = one-found s (a .n) (rows-on a) (a .found) (b .found) (ra .answer ∙ sym (rb .answer) ∙ sym (λ i. told s (n i) (rows i) (b .found))) (ra .besides) bb in
+    let f : a .found ≡ b .found = one-found s (a .n) (rows-on a) (a .found) (b .found) (ra .answer ∙ sym (rb .answer) ∙ sym (λ i. told-read s (n i) (rows i) (b .found))) (ra .besides) bb in
     λ i. record { found = f i; n = n i; destabilizers = k .0 i; stabilizers = k .1 i }

@@ -22,13 +22,12 @@ use Rattle.pauli.proofs.LetterLaws.{xor-adds}
 use Rattle.pauli.proofs.RowLaws.{anticommute-self}
 use Rattle.pauli.proofs.Sums.{sum-cong, sum-zero}
 use Rattle.clifford.specs.Tableau.{Rows}
-use Rattle.packing.specs.View.{letter-at, row-at, group-rows, rows-of}
-use Rattle.records.specs.Reading.{found, wrong-pair}
+use Rattle.packing.specs.View.{letter-at, row-at, group-rows, rows-of, Holds}
+use Rattle.records.specs.Reading.{is-some, wrong-pair}
 use Rattle.words.specs.Bit.{bit}
 use Rattle.words.proofs.BitLaws.{bit-xor, bit-and, bit-or, bit-zero, bit-ones, bit-shl, bit-low, bit-suc}
-use Rattle.loading.specs.Parts.{Holds}
-use Rattle.loading.proofs.Slices.{bit-high, bit-shr}
-use Rattle.reading.specs.Parts.{Against}
+use Rattle.read_rows.proofs.Slices.{bit-high, bit-shr}
+use Rattle.reading.specs.parts.Pairs.{Against}
 use Rattle.reading.proofs.WrongPairs.{cancel, alone, below, pair-dd, pair-ds, pair-ss}
 
 -- ---- words
@@ -117,10 +116,10 @@ module _ (n : ℕ) (most : n ≤ 64) where
         go (no l) (no d) m = bit-high (p + k) 64 a small (omega arith)
 
 -- a word that is zero exactly where no number passes a test
-decided : (w m : ℕ) (f : ℕ → Bool) → (w ≡ 0 → (j : ℕ) → j < m → f j ≡ false) → (((j : ℕ) → j < m → f j ≡ false) → w ≡ 0) → not (eqb w 0) ≡ found (lowest f m)
+decided : (w m : ℕ) (f : ℕ → Bool) → (w ≡ 0 → (j : ℕ) → j < m → f j ≡ false) → (((j : ℕ) → j < m → f j ≡ false) → w ≡ 0) → not (eqb w 0) ≡ is-some (lowest f m)
 decided w m f a b = go (lowest f m) (lowest-is f m)
   where
-    go : (o : Option ℕ) → Answer f m o → not (eqb w 0) ≡ found o
+    go : (o : Option ℕ) → Answer f m o → not (eqb w 0) ≡ is-some o
     go none k = ap not (eq-eqb w 0 (b k))
     go (some j) k = ap not (ne-eqb w 0 (λ z. true≢false (sym (k .passes) ∙ a z j (k .below))))
 
@@ -138,7 +137,7 @@ module _ (n : ℕ) (d s : List ℕ) (most : n ≤ 64) (gd : Holds n d) (gs : Hol
 
   -- a destabilizer, against all rows of both groups
   pub wrong-low : (i a b : ℕ) → i < n → a < 2 ^ 64 → b < 2 ^ 64 → Against d d n i a → Against d s n i b
-      → not (eqb (bitOr (a / 2 ^ i) (bitXor b ((1 * 2 ^ i) % 2 ^ 64))) 0) ≡ found (lowest (wrong-pair n (rows-of n d s) i) (n + n))
+      → not (eqb (bitOr (a / 2 ^ i) (bitXor b ((1 * 2 ^ i) % 2 ^ 64))) 0) ≡ is-some (lowest (wrong-pair n (rows-of n d s) i) (n + n))
   wrong-low i a b h sa sb pa pb = decided (low-word i a b) (n + n) (wrong-pair n rows i) zero-right right-zero
     where
       bits : (k : ℕ) → bit k (low-word i a b) ≡ (bit k (a / 2 ^ i) || (bit k b ⊕ eqb k i))
@@ -171,7 +170,7 @@ module _ (n : ℕ) (d s : List ℕ) (most : n ≤ 64) (gd : Holds n d) (gs : Hol
 
   -- a stabilizer, against the stabilizers
   pub wrong-high : (i a : ℕ) → n ≤ i → i < n + n → a < 2 ^ 64 → Against s s n (i - n) a
-      → not (eqb (a / 2 ^ (i - n)) 0) ≡ found (lowest (wrong-pair n (rows-of n d s) i) (n + n))
+      → not (eqb (a / 2 ^ (i - n)) 0) ≡ is-some (lowest (wrong-pair n (rows-of n d s) i) (n + n))
   wrong-high i a h m sa pa = decided (a / 2 ^ (i - n)) (n + n) (wrong-pair n rows i) zero-right right-zero
     where
       e : n + (i - n) ≡ i

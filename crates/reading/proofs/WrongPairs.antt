@@ -13,10 +13,10 @@ use Rattle.answers.proofs.First.{lowest-none}
 use Rattle.pauli.specs.Letters.{_⊕_}
 use Rattle.pauli.specs.Rows.{anticommute}
 use Rattle.clifford.specs.Tableau.{Rows, Paired}
-use Rattle.records.specs.Reading.{Read, read-of, qubits-in, outcome-count, last-record, rows-in, found, numbered, wrong-pair}
+use Rattle.records.specs.Reading.{Read, read-of, qubits-in, outcome-count, last-record, rows-in, is-some, numbered, wrong-pair}
 use Rattle.records.proofs.Pairs.{numbered-low, numbered-high, none-paired}
 use Rattle.records.proofs.Taken.{taken}
-use Rattle.loading.specs.Parts.{First}
+use Rattle.read_rows.specs.parts.Loading.{First}
 
 pub cancel : (a b : Bool) → a ⊕ b ≡ false → a ≡ b
 cancel true true e = refl
@@ -54,11 +54,11 @@ module _ (n : ℕ) (t : Rows) where
 
   -- row i is the lower row of a wrong pair
   abbrev pub lower-wrong : ℕ → Bool
-  lower-wrong i = found (lowest (wrong-pair n t i) (n + n))
+  lower-wrong i = is-some (lowest (wrong-pair n t i) (n + n))
 
   -- the last row is no lower row
   last-right : (i : ℕ) → n + n ≤ i + 1 → lower-wrong i ≡ false
-  last-right i h = ap found (lowest-none (wrong-pair n t i) (n + n) (λ j l. below i j (omega arith)))
+  last-right i h = ap is-some (lowest-none (wrong-pair n t i) (n + n) (λ j l. below i j (omega arith)))
 
   pub all-right : (i : ℕ) → n + n ≤ i + 1 → ((k : ℕ) → k < i → lower-wrong k ≡ false) → First lower-wrong (n + n) (n + n)
   all-right i h b = record { within = omega arith; before = λ k l. go k (decLt k i); here = λ l. absurd (omega arith) }

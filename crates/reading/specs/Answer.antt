@@ -3,25 +3,25 @@ use mathlib.Core.List.{List, [], _∷_}
 use mathlib.Core.Path.{_≡_}
 use Prim.Native.Nat.{ℕ, _+_, _-_, _≤_}
 use lib.ListN.{length, take, drop}
+use Rattle.clifford.specs.Limits.{most-operations, most-qubits}
 use Rattle.answers.specs.Refusals.{numberOf, placeOf}
 use Rattle.answers.specs.Verdict.{Verdict, accepted, refused}
 use Rattle.clifford.specs.Tableau.{Rows, start}
-use Rattle.packing.specs.View.{rows-of}
-use Rattle.records.specs.Reading.{Read, read-of, most-qubits, most-outcomes}
-use Rattle.loading.specs.Parts.{Holds}
-use Rattle.reading.specs.declared.Found.{Found}
-use Rattle.reading.specs.declared.Found.the-variants.{Record, Refused}
-use Rattle.reading.specs.declared.Sheet.{Sheet}
+use Rattle.packing.specs.View.{rows-of, Holds}
+use Rattle.records.specs.Reading.{Read, read-of}
+use Rattle.reading.specs.declared.Last.{Last}
+use Rattle.reading.specs.declared.Last.the-variants.{Record, Refused}
+use Rattle.reading.specs.declared.Contents.{Contents}
 
 -- each answer's number and values
-abbrev pub told : List ℕ → ℕ → Rows → Found → Verdict Read
-told s n rows (Record start outcomes) = accepted (record { qubits = n; size = length s - start; marks = take outcomes (drop start s); rows = rows })
-told s n rows (Refused r) = refused (numberOf r) (placeOf r)
+abbrev pub told-read : List ℕ → ℕ → Rows → Last → Verdict Read
+told-read s n rows (Record start outcomes) = accepted (record { qubits = n; size = length s - start; marks = take outcomes (drop start s); rows = rows })
+told-read s n rows (Refused r) = refused (numberOf r) (placeOf r)
 
 -- the outcomes lie within the bytes, and the numbers within their limits
 pub record Within (s : List ℕ) (n start outcomes : ℕ) : Type 0 where
   pub inside : start + outcomes ≤ length s
-  pub few : outcomes ≤ most-outcomes
+  pub few : outcomes ≤ most-operations
   pub least : 1 ≤ n
   pub most : n ≤ most-qubits
 
@@ -30,16 +30,16 @@ pub record Starts (n : ℕ) (rows : Rows) : Type 0 where
   pub one : n ≡ 1
   pub start : rows ≡ start 1
 
-abbrev pub Besides : List ℕ → ℕ → Rows → Found → Type 0
+abbrev pub Besides : List ℕ → ℕ → Rows → Last → Type 0
 Besides s n rows (Record start outcomes) = Within s n start outcomes
 Besides s n rows (Refused r) = Starts n rows
 
-abbrev pub rows-on : Sheet → Rows
+abbrev pub rows-on : Contents → Rows
 rows-on sheet = rows-of (sheet .n) (sheet .destabilizers) (sheet .stabilizers)
 
 -- what is answered of the bytes s
-pub record Reads (s : List ℕ) (sheet : Sheet) : Type 0 where
-  pub answer : told s (sheet .n) (rows-on sheet) (sheet .found) ≡ read-of s
+pub record Reads (s : List ℕ) (sheet : Contents) : Type 0 where
+  pub answer : told-read s (sheet .n) (rows-on sheet) (sheet .found) ≡ read-of s
   pub besides : Besides s (sheet .n) (rows-on sheet) (sheet .found)
   pub destabilizers : Holds (sheet .n) (sheet .destabilizers)
   pub stabilizers : Holds (sheet .n) (sheet .stabilizers)

@@ -2,10 +2,10 @@
 ghost use mathlib.Core.Path.{_≡_};
 ghost use Prim.Native.Nat.{_+_, _≤_, _<_};
 ghost use Rattle.answers.specs.First.{lowest};
-ghost use Rattle.packing.specs.View.{rows-of};
-ghost use Rattle.records.specs.Reading.{found, wrong-pair};
-ghost use Rattle.loading.specs.Parts.{First, Holds};
-ghost use Rattle.reading.specs.Parts.{Against};
+ghost use Rattle.packing.specs.View.{rows-of, Holds};
+ghost use Rattle.records.specs.Reading.{is-some, wrong-pair};
+ghost use Rattle.read_rows.specs.parts.Loading.{First};
+ghost use Rattle.reading.specs.parts.Pairs.{Against};
 
 // Words with a bit for each row of a group.
 pub struct Marked {
@@ -50,7 +50,7 @@ fn both(own: &[u64; 129], other: &[u64; 129], n: usize, i: usize) -> Marked
 // Row i of the 2n is the lower row of a wrong pair. Bits from i on are rows from i on.
 fn wrong(d: &[u64; 129], s: &[u64; 129], n: usize, i: usize) -> bool
     requires { ⌜ (n ≤ 64) × (i < n + n) × Holds n (now d) × Holds n (now s) ⌝ }
-    ensures { λ r. ⌜ r ≡ found (lowest (wrong-pair n (rows-of n (now (d .entry)) (now (s .entry))) i) (n + n)) ⌝ }
+    ensures { λ r. ⌜ r ≡ is-some (lowest (wrong-pair n (rows-of n (now (d .entry)) (now (s .entry))) i) (n + n)) ⌝ }
 {
     if i < n {
         let w = both(d, s, n, i);
@@ -63,7 +63,7 @@ fn wrong(d: &[u64; 129], s: &[u64; 129], n: usize, i: usize) -> bool
 // The lower row of the first wrong pair, or 2n. The last row is no lower row.
 pub fn unpaired(d: &[u64; 129], s: &[u64; 129], n: usize) -> usize
     requires { ⌜ (1 ≤ n) × (n ≤ 64) × Holds n (now d) × Holds n (now s) ⌝ }
-    ensures { λ r. ⌜ First (λ i. found (lowest (wrong-pair n (rows-of n (now (d .entry)) (now (s .entry))) i) (n + n))) (n + n) r ⌝ }
+    ensures { λ r. ⌜ First (λ i. is-some (lowest (wrong-pair n (rows-of n (now (d .entry)) (now (s .entry))) i) (n + n))) (n + n) r ⌝ }
 {
     let mut i: usize = 0;
     while i + 1 < n + n {

@@ -7,9 +7,10 @@ use native.Mathlib.Omega.{arith}
 use lib.Dec.{leb, eqb}
 use lib.ListN.{length, getD, length-drop}
 use borrow.Author.Tests.{leb-true, le-leb, eqb-true, eq-eqb}
+use Rattle.clifford.specs.Limits.{most-operations, most-qubits}
 use Rattle.answers.specs.Verdict.{unless}
 use Rattle.records.specs.Record.{to-rows}
-use Rattle.records.specs.Reading.{last-twelve, first-distance, second-distance, qubits-in, marked, ends-in-record, last-record, outcome-count, reading, read-of, most-qubits, most-outcomes}
+use Rattle.records.specs.Reading.{last-twelve, first-distance, second-distance, qubits-in, marked, ends-in-record, last-record, outcome-count, reading, read-of}
 
 -- the mark in twelve bytes
 abbrev pub sealed-by : List ℕ → Bool
@@ -22,7 +23,7 @@ pub record Ending (s : List ℕ) : Type 0 where
   pub most : qubits-in s ≤ most-qubits
   pub first : first-distance s ≡ to-rows (qubits-in s)
   pub above : first-distance s ≤ second-distance s
-  pub few : second-distance s ≤ first-distance s + most-outcomes
+  pub few : second-distance s ≤ first-distance s + most-operations
   pub within : second-distance s ≤ length s
 
 -- eight tests that all pass
@@ -45,7 +46,7 @@ module _ (s : List ℕ) where
   ending e =
       let t =
       eight (leb 12 (length s)) (marked s) (leb 1 (qubits-in s)) (leb (qubits-in s) most-qubits) (eqb (first-distance s) (to-rows (qubits-in s))) (leb (first-distance s) (second-distance s))
-      (leb (second-distance s) (first-distance s + most-outcomes)) (leb (second-distance s) (length s)) e in
+      (leb (second-distance s) (first-distance s + most-operations)) (leb (second-distance s) (length s)) e in
       record {
         long = leb-true _ _ (t .0);
         sealed = t .1;
@@ -60,9 +61,9 @@ module _ (s : List ℕ) where
   ended : Ending s → ends-in-record s ≡ true
   ended e =
       all-eight (leb 12 (length s)) (marked s) (leb 1 (qubits-in s)) (leb (qubits-in s) most-qubits) (eqb (first-distance s) (to-rows (qubits-in s))) (leb (first-distance s) (second-distance s))
-      (leb (second-distance s) (first-distance s + most-outcomes)) (leb (second-distance s) (length s))
+      (leb (second-distance s) (first-distance s + most-operations)) (leb (second-distance s) (length s))
       (le-leb 12 (length s) (e .long)) (e .sealed) (le-leb 1 (qubits-in s) (e .least)) (le-leb (qubits-in s) most-qubits (e .most)) (eq-eqb (first-distance s) (to-rows (qubits-in s)) (e .first))
-      (le-leb (first-distance s) (second-distance s) (e .above)) (le-leb (second-distance s) (first-distance s + most-outcomes) (e .few)) (le-leb (second-distance s) (length s) (e .within))
+      (le-leb (first-distance s) (second-distance s) (e .above)) (le-leb (second-distance s) (first-distance s + most-operations) (e .few)) (le-leb (second-distance s) (length s) (e .within))
 
   pub read-ended : Ending s → read-of s ≡ reading (qubits-in s) (outcome-count s) (last-record s)
   unfolding read-of

@@ -3,10 +3,10 @@ use mathlib.Core.Path.{_≡_}
 use mathlib.Core.List.{List}
 use Prim.Native.Nat.{ℕ, _≤_}
 use lib.ListN.{length}
+use Rattle.clifford.specs.Limits.{most-operations, most-qubits}
 use Rattle.pauli.specs.Letters.{I}
 use Rattle.pauli.specs.Rows.{Row}
 use Rattle.clifford.specs.Tableau.{Rows, blank, Paired}
-use Rattle.records.specs.Reading.{most-qubits, most-outcomes}
 use Rattle.records.proofs.Outcomes.{Marks}
 
 -- the letters of each row are I from n on, and the rows from n on are blank
@@ -21,7 +21,7 @@ pub record Clean (n : ℕ) (t : Rows) : Type 0 where
 pub record Held (n : ℕ) (marks : List ℕ) (t : Rows) : Type 0 where
   pub least : 1 ≤ n
   pub most : n ≤ most-qubits
-  pub few : length marks ≤ most-outcomes
+  pub few : length marks ≤ most-operations
   pub marked : Marks marks
   pub paired : Paired n t
   pub clean : Clean n t

@@ -9,8 +9,10 @@ pub mod Ending
 pub mod Taken
 pub mod Archive
 pub mod Places
+pub mod Bytes
 pub mod Written
 pub mod Spelled
 pub mod Trailer
 pub mod Again
 pub mod Start
+pub mod Numbered

@@ -1,14 +1,13 @@
 -- The characters of outcomes: each is listed, and tells kind and value. Assumes nothing.
 use mathlib.Core.Path.{_≡_, refl, sym, _∙_, ap, ap₂}
-use mathlib.Core.Bool.{Bool, true, false, _||_}
+use mathlib.Core.Bool.{Bool, true, false}
 use mathlib.Core.List.{List, [], _∷_, map}
 use Prim.Native.Nat.{ℕ, zero, suc, _<_}
 use native.Mathlib.Nat.{le-of-suc-le-suc}
 use native.Mathlib.Omega.{arith}
-use lib.Dec.{eqb, leb}
 use lib.ListN.{length, getD}
 use Rattle.clifford.specs.Measurement.{Outcome}
-use Rattle.records.specs.Record.{mark-of, mark}
+use Rattle.records.specs.Record.{mark-of, mark, outcome-of}
 use Rattle.records.specs.Reading.{is-mark}
 
 -- each is one of the four characters
@@ -26,19 +25,15 @@ outcomes-marked [] i h = absurd (omega arith)
 outcomes-marked (o ∷ os) zero h = mark-fits (o .random) (o .value)
 outcomes-marked (o ∷ os) (suc i) h = outcomes-marked os i (le-of-suc-le-suc h)
 
--- the outcome of a character
-abbrev pub outcome-of : ℕ → Outcome
-outcome-of b = record { random = leb 50 b; value = eqb b 49 || eqb b 51 }
-
-back : (random value : Bool) → outcome-of (mark-of random value) ≡ record { random = random; value = value }
-back false false = refl
-back false true = refl
-back true false = refl
-back true true = refl
+pub mark-back : (random value : Bool) → outcome-of (mark-of random value) ≡ record { random = random; value = value }
+mark-back false false = refl
+mark-back false true = refl
+mark-back true false = refl
+mark-back true true = refl
 
 pub mark-one : (o p : Outcome) → mark o ≡ mark p → o ≡ p
-mark-one o p e = sym (back (o .random) (o .value)) ∙ ap outcome-of e ∙ back (p .random) (p .value)
+mark-one o p e = sym (mark-back (o .random) (o .value)) ∙ ap outcome-of e ∙ mark-back (p .random) (p .value)
 
 pub outcomes-back : (outcomes : List Outcome) → map outcome-of (map mark outcomes) ≡ outcomes
 outcomes-back [] = refl
-outcomes-back (o ∷ os) = ap₂ _∷_ (back (o .random) (o .value)) (outcomes-back os)
+outcomes-back (o ∷ os) = ap₂ _∷_ (mark-back (o .random) (o .value)) (outcomes-back os)

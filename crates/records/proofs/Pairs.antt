@@ -13,7 +13,7 @@ use Rattle.pauli.specs.Letters.{_⊕_}
 use Rattle.pauli.specs.Rows.{Letters, anticommute}
 use Rattle.pauli.proofs.RowLaws.{anticommute-self, anticommute-swap}
 use Rattle.clifford.specs.Tableau.{Rows, Paired}
-use Rattle.records.specs.Reading.{numbered, wrong-pair, found, first-wrong}
+use Rattle.records.specs.Reading.{numbered, wrong-pair, is-some, first-wrong}
 
 pub numbered-low : (n : ℕ) (t : Rows) (i : ℕ) → i < n → numbered n t i ≡ t .destabilizer i
 numbered-low n t i l = rw (lt-ltb i n l)
@@ -33,7 +33,7 @@ same-xor true true e = refl
 same-xor true false e = absurd (true≢false e)
 same-xor false b e = sym e
 
-none-found : (o : Option ℕ) → found o ≡ false → o ≡ none
+none-found : (o : Option ℕ) → is-some o ≡ false → o ≡ none
 none-found none e = refl
 none-found (some k) e = absurd (true≢false e)
 
@@ -43,7 +43,7 @@ none-passes f n e = go (lowest f n) e (lowest-is f n)
   where
     go : (o : Option ℕ) → o ≡ none → Answer f n o → (i : ℕ) → i < n → f i ≡ false
     go none e k = k
-    go (some p) e k = absurd (true≢false (ap found e))
+    go (some p) e k = absurd (true≢false (ap is-some e))
 
 module _ (n : ℕ) (t : Rows) where
   abbrev crossed : ℕ → ℕ → Bool
@@ -54,12 +54,12 @@ module _ (n : ℕ) (t : Rows) where
 
   right-none : Right → first-wrong n t ≡ none
   unfolding first-wrong
-  right-none r = lowest-none _ (n + n) (λ i l. ap found (lowest-none (wrong-pair n t i) (n + n) (λ j k. r i j l k)))
+  right-none r = lowest-none _ (n + n) (λ i l. ap is-some (lowest-none (wrong-pair n t i) (n + n) (λ j k. r i j l k)))
 
   none-right : first-wrong n t ≡ none → Right
   unfolding first-wrong
   none-right e i j l k =
-      none-passes (wrong-pair n t i) (n + n) (none-found (lowest (wrong-pair n t i) (n + n)) (none-passes (λ i. found (lowest (wrong-pair n t i) (n + n))) (n + n) e i l)) j k
+      none-passes (wrong-pair n t i) (n + n) (none-found (lowest (wrong-pair n t i) (n + n)) (none-passes (λ i. is-some (lowest (wrong-pair n t i) (n + n))) (n + n) e i l)) j k
 
   -- rows that are no partners commute, and partners do not
   lower : (i j : ℕ) → i < j → crossed i j ≡ eqb j (n + i) → wrong-pair n t i j ≡ false

@@ -10,14 +10,9 @@ use Rattle.answers.specs.Verdict.{Verdict, accepted, unless, unless-at}
 use Rattle.pauli.specs.Letters.{_⊕_}
 use Rattle.pauli.specs.Rows.{Row, anticommute}
 use Rattle.pauli.specs.Texts.{fits-at, spelled}
+use Rattle.clifford.specs.Limits.{most-qubits, most-operations}
 use Rattle.clifford.specs.Tableau.{Rows, blank}
 use Rattle.records.specs.Record.{to-rows}
-
-abbrev pub most-qubits : ℕ
-most-qubits = 64
-
-abbrev pub most-outcomes : ℕ
-most-outcomes = 4096
 
 -- the number that stands in some bytes, lowest byte first
 unfoldable pub number-in : List ℕ → ℕ
@@ -45,7 +40,7 @@ abbrev pub ends-in-record : List ℕ → Bool
 ends-in-record s =
     leb 12 (length s) && marked s && leb 1 (qubits-in s) && leb (qubits-in s) most-qubits
     && eqb (first-distance s) (to-rows (qubits-in s)) && leb (first-distance s) (second-distance s)
-    && leb (second-distance s) (first-distance s + most-outcomes) && leb (second-distance s) (length s)
+    && leb (second-distance s) (first-distance s + most-operations) && leb (second-distance s) (length s)
 
 -- the last record of these bytes
 unfoldable pub last-record : List ℕ → List ℕ
@@ -88,13 +83,13 @@ numbered n t i = cond (ltb i n) (t .destabilizer i) (t .stabilizer (i - n))
 abbrev pub wrong-pair : ℕ → Rows → ℕ → ℕ → Bool
 wrong-pair n t i j = ltb i j && (anticommute n (numbered n t i .letters) (numbered n t j .letters) ⊕ eqb j (n + i))
 
-abbrev pub found : Option ℕ → Bool
-found none = false
-found (some k) = true
+abbrev pub is-some : Option ℕ → Bool
+is-some none = false
+is-some (some k) = true
 
 -- 11: the lower row of the first wrong pair, by lower row, then upper
 unfoldable pub first-wrong : ℕ → Rows → Option ℕ
-first-wrong n t = lowest (λ i. found (lowest (wrong-pair n t i) (n + n))) (n + n)
+first-wrong n t = lowest (λ i. is-some (lowest (wrong-pair n t i) (n + n))) (n + n)
 
 -- what is read: n, the record's length, its outcome characters and its rows
 pub record Read : Type 0 where

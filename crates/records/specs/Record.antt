@@ -1,7 +1,8 @@
 -- The run record as bytes: all outcomes, the 2n rows, and a trailer of 12 bytes that points back. Document 01, "The run record". Assumes nothing.
-use mathlib.Core.Bool.{Bool, true, false}
+use mathlib.Core.Bool.{Bool, true, false, _||_}
 use mathlib.Core.List.{List, [], _∷_, _++_, map}
 use Prim.Native.Nat.{ℕ, zero, suc, _+_, _*_, _/_, _%_}
+use lib.Dec.{eqb}
 use lib.ListN.{length}
 use Rattle.pauli.specs.Texts.{listed, row-text}
 use Rattle.clifford.specs.Tableau.{Rows}
@@ -16,6 +17,10 @@ mark-of true true = 51
 
 abbrev pub mark : Outcome → ℕ
 mark o = mark-of (o .random) (o .value)
+
+-- the outcome that a character tells
+abbrev pub outcome-of : ℕ → Outcome
+outcome-of b = record { random = eqb b 50 || eqb b 51; value = eqb b 49 || eqb b 51 }
 
 -- a number in so many bytes, lowest byte first
 unfoldable pub low-first : ℕ → ℕ → List ℕ
@@ -48,3 +53,7 @@ record-of n outcomes t = record-with n (map mark outcomes) t
 
 abbrev pub record-length : ℕ → ℕ → ℕ
 record-length n count = count + to-rows n
+
+-- the longest record
+abbrev pub longest-record : ℕ
+longest-record = 12428

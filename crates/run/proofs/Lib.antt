@@ -1,5 +1,4 @@
 pub mod Sheets
-pub mod Demand3
 pub mod Cleanness
 pub mod ReadBack
-pub mod Promised
+pub mod Numbered

@@ -31,7 +31,7 @@ pub record Accepted-run (text coins : List ℕ) (s : Sheet) : Type 0 where
   pub meant : meaning text ≡ accepted circuit
   pub state : State
   pub ran : run (circuit .qubits) 2 (circuit .ops) (begin (circuit .qubits) coins) ≡ accepted state
-  pub is : s ≡ sheet (circuit .qubits) state
+  pub is : s ≡ sheet (circuit .qubits) coins state
 
 pub accepted-run : (text coins : List ℕ) (room : ℕ) (s : Sheet) → run-of text coins room ≡ accepted s → Accepted-run text coins s
 unfolding run-of run-circuit
@@ -39,9 +39,9 @@ accepted-run text coins room s e =
     let m = then-accepted (meaning text) (λ c. unless (leb (record-length (c .qubits) (count-measured (c .ops))) room) 8 0 (run-circuit c coins)) s e in
     let c = m .value in
     let u : run-circuit c coins ≡ accepted s = unless-passed (leb (record-length (c .qubits) (count-measured (c .ops))) room) 8 0 (run-circuit c coins) s (m .later) in
-    let r = then-accepted (run (c .qubits) 2 (c .ops) (begin (c .qubits) coins)) (λ f. accepted (sheet (c .qubits) f)) s u in
-    let q : _≡_ {A = Verdict Sheet} (accepted (sheet (c .qubits) (r .value))) (accepted s) = r .later in
-    record { circuit = c; meant = m .first; state = r .value; ran = r .first; is = (let z : sheet (c .qubits) (r .value) ≡ s = cc in sym z) }
+    let r = then-accepted (run (c .qubits) 2 (c .ops) (begin (c .qubits) coins)) (λ f. accepted (sheet (c .qubits) coins f)) s u in
+    let q : _≡_ {A = Verdict Sheet} (accepted (sheet (c .qubits) coins (r .value))) (accepted s) = r .later in
+    record { circuit = c; meant = m .first; state = r .value; ran = r .first; is = (let z : sheet (c .qubits) coins (r .value) ≡ s = cc in sym z) }
 
 module _ (text coins : List ℕ) (s : Sheet) (a : Accepted-run text coins s) where
   -- after every operation the rows are properly paired: of every prefix of the operations
@@ -55,7 +55,7 @@ module _ (text coins : List ℕ) (s : Sheet) (a : Accepted-run text coins s) whe
       valid-front [] later v = tt
       valid-front (op ∷ front) later v = (v .0, valid-front front later (v .1))
 
-  held : Held (a .circuit .qubits) (map mark (a .state .outcomes)) (a .state .rows)
+  pub held : Held (a .circuit .qubits) (map mark (a .state .outcomes)) (a .state .rows)
   held =
       let p = parts text (a .circuit) (a .meant) in
       record {

@@ -13,7 +13,7 @@ use Rattle.clifford.specs.Tableau.{Rows, start}
 use Rattle.clifford.specs.Run.{State, run, begin}
 use Rattle.circuit.specs.Text.{Circuit, meaning, operations, count-measured}
 use Rattle.circuit.specs.Lines.{Found, found}
-use Rattle.checking.specs.Promises.{counts, Headed, Accepts}
+use Rattle.checking.specs.parts.Promises.{counts, Headed, Accepts}
 use Rattle.checking.proofs.Meant.{lines-counted, parts}
 use Rattle.packing.specs.View.{rows-of}
 use Rattle.tableau.specs.declared.Tableau.{Tableau}
@@ -22,8 +22,8 @@ use Rattle.records.specs.Record.{mark, record-with, record-length}
 use Rattle.records.proofs.Lengths.{length-record}
 use Rattle.tally.specs.declared.Tally.{Tally}
 use Rattle.run.specs.Run.{Sheet, sheet, run-circuit, run-of, numbers, rest-of, buffer-after, Runs}
-use Rattle.walking.specs.Walk.{lines-of, or-none, Ended, Stuck}
-use Rattle.run.specs.Ran.{judgement, Sheeted}
+use Rattle.walking.specs.parts.Walk.{lines-of, or-none, Ended, Stuck}
+use Rattle.run.specs.parts.Ran.{judgement, Sheeted}
 use Rattle.walking.proofs.Counting.{run-count, measures-one}
 
 pub start-rows : (t : Tableau) (n : ℕ) → t .n ≡ n → rows t ≡ start n → start n ≡ rows-of n (t .destabilizers) (t .stabilizers)
@@ -51,11 +51,10 @@ ended-few text body n coins d s marks t e = omega (arith, ended-room text body n
 pub record Played (text : List ℕ) (body n : ℕ) (coins old : List ℕ) (size : ℕ) (t : Tally) (new : List ℕ) : Type 0 where
   pub state : State
   pub is : run n 2 (lines-of n body text) (begin n coins) ≡ accepted state
-  pub size-is : size ≡ length (sheet n state .bytes)
-  pub tally-is : t ≡ sheet n state .tally
-  pub rest-is : state .coins ≡ drop (t .taken) coins
+  pub size-is : size ≡ length (sheet n coins state .bytes)
+  pub tally-is : t ≡ sheet n coins state .tally
   pub enough : t .taken ≤ length coins
-  pub buffer : new ≡ over (sheet n state .bytes) old
+  pub buffer : new ≡ over (sheet n coins state .bytes) old
 
 ended-played : (text : List ℕ) (body n : ℕ) (coins d s marks : List ℕ) (t : Tally) (old : List ℕ) (size : ℕ) (new : List ℕ) → Ended text body n coins d s marks t
     → size ≡ record-length n (length (take (t .measured) marks)) → new ≡ over (record-with n (take (t .measured) marks) (rows-of n d s)) old
@@ -67,7 +66,6 @@ ended-played text body n coins d s marks t old size new e z b =
       is = e .is;
       size-is = z ∙ ap (λ (l : List ℕ). record-length n (length l)) (sym m) ∙ sym (length-record n (map mark (e .state .outcomes)) (e .state .rows));
       tally-is = e .view .tally-is;
-      rest-is = e .view .coins-are;
       enough = e .view .enough;
       buffer = b ∙ sym (ap₂ (λ (l : List ℕ) (r : Rows). over (record-with n l r) old) m (e .view .rows-are));
     }
@@ -87,20 +85,19 @@ module _ (text coins old : List ℕ) (n count measured body : ℕ) (a : Accepts 
   no-room h = met ∙ ap (λ (b : Bool). unless b 8 0 (run-circuit (a .circuit) coins)) (lt-leb (record-length n measured) (length old) h)
 
   played : record-length n measured ≤ length old → (v : Verdict State) → run n 2 (lines-of n body text) (begin n coins) ≡ v
-      → run-of text coins (length old) ≡ then v (λ e. accepted (sheet n e))
+      → run-of text coins (length old) ≡ then v (λ e. accepted (sheet n coins e))
   unfolding run-circuit
   played h v e =
       met ∙ ap (λ (b : Bool). unless b 8 0 (run-circuit (a .circuit) coins)) (le-leb (record-length n measured) (length old) h)
-      ∙ ap₂ (λ (m : ℕ) (ops : List Op). then (run m 2 ops (begin m coins)) (λ e. accepted (sheet m e))) (sym (a .qubits-is)) (sym lines-are)
-      ∙ ap (λ (w : Verdict State). then w (λ e. accepted (sheet n e))) e
+      ∙ ap₂ (λ (m : ℕ) (ops : List Op). then (run m 2 ops (begin m coins)) (λ e. accepted (sheet m coins e))) (sym (a .qubits-is)) (sym lines-are)
+      ∙ ap (λ (w : Verdict State). then w (λ e. accepted (sheet n coins e))) e
 
   sheeted : record-length n measured ≤ length old → (size : ℕ) (t : Tally) (new : List ℕ) → Played text body n coins old size t new → Sheeted text coins old size t new
   sheeted h size t new p = record {
-    sheet = sheet n (p .state);
+    sheet = sheet n coins (p .state);
     is = played h (accepted (p .state)) (p .is);
     size-is = p .size-is;
     tally-is = p .tally-is;
-    rest-is = p .rest-is;
     enough = p .enough;
     buffer = p .buffer;
   }
@@ -149,8 +146,8 @@ stuck-circuit text coins n body line h k c m =
     let l : operations n 4096 2 (drop body text) ≡ accepted (c .ops) = rw (q, r) (p .lines) in
     let o : lines-of n body text ≡ c .ops = ap or-none l in
     let s : run n 2 (lines-of n body text) (begin n coins) ≡ refused 7 line = k (l ∙ ap accepted (sym o)) in
-    ap₂ (λ (m : ℕ) (ops : List Op). then (run m 2 ops (begin m coins)) (λ e. accepted (sheet m e))) (sym q) (sym o)
-    ∙ ap (λ (v : Verdict State). then v (λ e. accepted (sheet n e))) s
+    ap₂ (λ (m : ℕ) (ops : List Op). then (run m 2 ops (begin m coins)) (λ e. accepted (sheet m coins e))) (sym q) (sym o)
+    ∙ ap (λ (v : Verdict State). then v (λ e. accepted (sheet n coins e))) s
 
 pub stuck-run : (text coins : List ℕ) (n body line room a p : ℕ) → Headed text n body → Stuck text body n coins line → judgement text line room ≡ refused a p → run-of text coins room ≡ refused a p
 unfolding run-of judgement
@@ -186,7 +183,7 @@ pub ran-sheet : (text coins old : List ℕ) (size : ℕ) (t : Tally) (rest new :
     → Runs text coins old (0 ∷ 0 ∷ size ∷ t .measured ∷ t .random ∷ t .taken ∷ []) rest new
 ran-sheet text coins old size t rest new r e = record {
   answers = ap₂ (λ (k : ℕ) (u : Tally). 0 ∷ 0 ∷ k ∷ u .measured ∷ u .random ∷ u .taken ∷ []) (r .size-is) (r .tally-is) ∙ sym (ap numbers (r .is));
-  hands-back = e ∙ sym (r .rest-is) ∙ sym (ap (λ (v : Verdict Sheet). rest-of v coins) (r .is));
+  hands-back = e ∙ ap (λ (u : Tally). drop (u .taken) coins) (r .tally-is) ∙ sym (ap (λ (v : Verdict Sheet). rest-of v coins) (r .is));
   buffer = r .buffer ∙ sym (ap (λ (v : Verdict Sheet). buffer-after v old) (r .is));
 }
 

@@ -1,2 +1,2 @@
 pub mod Run
-pub mod Ran
+pub mod parts

@@ -3,27 +3,26 @@ use mathlib.Core.List.{List, [], _∷_}
 use mathlib.Core.Path.{_≡_}
 use Prim.Native.Nat.{ℕ}
 use lib.Dec.{leb}
-use lib.ListN.{length}
+use lib.ListN.{length, drop}
 use Rattle.answers.specs.Verdict.{Verdict, accepted, refused, then, unless, over}
 use Rattle.clifford.specs.Run.{State, begin, run}
 use Rattle.circuit.specs.Text.{Circuit, meaning, count-measured}
 use Rattle.records.specs.Record.{record-of, record-length}
 use Rattle.tally.specs.declared.Tally.{Tally}
-use Rattle.tally.specs.Tally.{none-yet, tallied}
+use Rattle.tally.specs.Tally.{tally-of}
 
--- what an accepted run answers: the record, the unused rest of the coins, and the tally
+-- what an accepted run answers: the record, and the tally
 pub record Sheet : Type 0 where
   pub bytes : List ℕ
-  pub rest : List ℕ
   pub tally : Tally
 
--- the sheet of a run that has come to its end
-abbrev pub sheet : ℕ → State → Sheet
-sheet n e = record { bytes = record-of n (e .outcomes) (e .rows); rest = e .coins; tally = tallied none-yet (e .outcomes) }
+-- the sheet of a run that was lent these coins and has come to its end
+abbrev pub sheet : ℕ → List ℕ → State → Sheet
+sheet n coins e = record { bytes = record-of n (e .outcomes) (e .rows); tally = tally-of coins e }
 
 -- the operations' rules, one after the other, from the start tableau; the first operation stands on line 2
 unfoldable pub run-circuit : Circuit → List ℕ → Verdict Sheet
-run-circuit c coins = then (run (c .qubits) 2 (c .ops) (begin (c .qubits) coins)) (λ e. accepted (sheet (c .qubits) e))
+run-circuit c coins = then (run (c .qubits) 2 (c .ops) (begin (c .qubits) coins)) (λ e. accepted (sheet (c .qubits) coins e))
 
 -- 1 to 6 as the check gives them, then 8, then 7
 unfoldable pub run-of : List ℕ → List ℕ → ℕ → Verdict Sheet
@@ -35,9 +34,9 @@ abbrev pub numbers : Verdict Sheet → List ℕ
 numbers (accepted s) = 0 ∷ 0 ∷ length (s .bytes) ∷ s .tally .measured ∷ s .tally .random ∷ s .tally .taken ∷ []
 numbers (refused number place) = number ∷ place ∷ 0 ∷ 0 ∷ 0 ∷ 0 ∷ []
 
--- the unused rest of the lent coins; when refused, all of them
+-- the unused rest: the lent coins without their first so many as were taken; when refused, all of them
 abbrev pub rest-of : Verdict Sheet → List ℕ → List ℕ
-rest-of (accepted s) coins = s .rest
+rest-of (accepted s) coins = drop (s .tally .taken) coins
 rest-of (refused number place) coins = coins
 
 -- a refused run writes nothing

@@ -3,9 +3,9 @@
 ghost use mathlib.Core.Path.{_≡_};
 ghost use Rattle.answers.specs.Refusals.{numberOf, placeOf};
 ghost use Rattle.answers.specs.Verdict.{refused};
-ghost use Rattle.checking.specs.Promises.{Headed};
+ghost use Rattle.checking.specs.parts.Promises.{Headed};
 ghost use Rattle.run.specs.Run.{Runs};
-ghost use Rattle.run.specs.Ran.{judgement, RanAs};
+ghost use Rattle.run.specs.parts.Ran.{judgement, RanAs};
 use answers::Refusal;
 use checking::Heading;
 use checking::Scanned;

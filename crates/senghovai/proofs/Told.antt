@@ -7,15 +7,15 @@ use lib.ListN.{length, getD, take, drop, length-drop}
 use lib.Seq.{length-take-le}
 use Rattle.answers.specs.declared.Written.{Written}
 use Rattle.answers.specs.Verdict.{Verdict, accepted, refused, then, within, after, counted}
-use Rattle.answers.specs.Refusals.{told, Writes}
-use Rattle.checking.specs.Promises.{Size}
+use Rattle.answers.specs.Refusals.{told-written, Writes}
+use Rattle.checking.specs.Check.{Size}
 use Rattle.records.specs.Reading.{Read, read-of}
 use Rattle.run.specs.Run.{Sheet, run-of, numbers, rest-of, Runs}
-use Rattle.senghovai.specs.Exports.{number-of, check-places, run-places, Ran, read-places, write-places, Wrote}
+use Rattle.senghovai.specs.Exports.{number-of, check-places, run-places, ExportsRun, read-places, write-places, ExportsWritten}
 
 -- bytes written
 pub wrote : (v : Verdict (List ℕ)) (old : List ℕ) (w : Written) (number : ℕ) (answer new : List ℕ) → Writes v old w new
-    → number ≡ number-of (told w) → answer ≡ write-places (told w) → Wrote v old number answer new
+    → number ≡ number-of (told-written w) → answer ≡ write-places (told-written w) → ExportsWritten v old number answer new
 wrote v old w number answer new p n a = record { number-is = n ∙ ap number-of (p .answer); answer-is = a ∙ ap write-places (p .answer); buffer = p .buffer }
 
 -- a verdict that is known
@@ -24,7 +24,7 @@ is-told f v w e = (ap number-of e, ap f e)
 
 -- a run's numbers in the order of its answer
 pub ran : (circuit coins old answer rest new : List ℕ) → Runs circuit coins old answer rest new
-    → Ran circuit coins old (getD answer 0 0) (getD answer 1 0 ∷ getD answer 2 0 ∷ length rest ∷ getD answer 3 0 ∷ getD answer 4 0 ∷ getD answer 5 0 ∷ []) new
+    → ExportsRun circuit coins old (getD answer 0 0) (getD answer 1 0 ∷ getD answer 2 0 ∷ length rest ∷ getD answer 3 0 ∷ getD answer 4 0 ∷ getD answer 5 0 ∷ []) new
 ran circuit coins old answer rest new r = record {
   number-is = ap (λ (l : List ℕ). getD l 0 0) (r .answers) ∙ first (run-of circuit coins (length old));
   answer-is =

@@ -1,14 +1,14 @@
 -- What each exported function returns and writes into `answer`, from the definitions of the library: the number is the refusal's, 0 when accepted, and where
 -- document 01 answers a number, a refusal gives zero. Assumes nothing.
-use mathlib.Core.Bool.{Bool, true, false}
 use mathlib.Core.List.{List, [], _∷_}
 use mathlib.Core.Path.{_≡_}
 use Prim.Native.Nat.{ℕ, _-_}
-use lib.ListN.{length}
+use lib.ListN.{length, drop}
 use Rattle.answers.specs.Verdict.{Verdict, accepted, refused, then, within, after, counted}
 use Rattle.archive.specs.Same.{Compared, compared, first-refused, second-refused}
-use Rattle.checking.specs.Promises.{Size}
+use Rattle.checking.specs.Check.{Size}
 use Rattle.records.specs.Reading.{Read}
+use Rattle.tally.specs.Tally.{one-if}
 use Rattle.run.specs.Run.{Sheet, run-of, buffer-after}
 
 abbrev pub number-of : {A : Type 0} → Verdict A → ℕ
@@ -22,11 +22,11 @@ check-places (refused number place) = place ∷ 0 ∷ 0 ∷ []
 
 -- place, the record's length, coins left, measured, random, taken
 abbrev pub run-places : List ℕ → Verdict Sheet → List ℕ
-run-places coins (accepted s) = 0 ∷ length (s .bytes) ∷ length (s .rest) ∷ s .tally .measured ∷ s .tally .random ∷ s .tally .taken ∷ []
+run-places coins (accepted s) = 0 ∷ length (s .bytes) ∷ length (drop (s .tally .taken) coins) ∷ s .tally .measured ∷ s .tally .random ∷ s .tally .taken ∷ []
 run-places coins (refused number place) = place ∷ 0 ∷ length coins ∷ 0 ∷ 0 ∷ 0 ∷ []
 
 -- what a run returns, answers and leaves in the buffer
-pub record Ran (circuit coins old : List ℕ) (number : ℕ) (answer new : List ℕ) : Type 0 where
+pub record ExportsRun (circuit coins old : List ℕ) (number : ℕ) (answer new : List ℕ) : Type 0 where
   pub number-is : number ≡ number-of (run-of circuit coins (length old))
   pub answer-is : answer ≡ run-places coins (run-of circuit coins (length old))
   pub buffer : new ≡ buffer-after (run-of circuit coins (length old)) old
@@ -42,14 +42,10 @@ write-places (accepted count) = 0 ∷ count ∷ []
 write-places (refused number place) = place ∷ 0 ∷ []
 
 -- what a function that writes bytes returns, answers and leaves in the buffer
-pub record Wrote (v : Verdict (List ℕ)) (old : List ℕ) (number : ℕ) (answer new : List ℕ) : Type 0 where
+pub record ExportsWritten (v : Verdict (List ℕ)) (old : List ℕ) (number : ℕ) (answer new : List ℕ) : Type 0 where
   pub number-is : number ≡ number-of (counted (then v (within (length old))))
   pub answer-is : answer ≡ write-places (counted (then v (within (length old))))
   pub buffer : new ≡ after (then v (within (length old))) old
-
-abbrev pub one-if : Bool → ℕ
-one-if true = 1
-one-if false = 0
 
 abbrev pub same-number : Compared → ℕ
 same-number (compared b) = 0

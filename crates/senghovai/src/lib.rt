@@ -3,16 +3,16 @@
 ghost use mathlib.Core.Path.{_≡_};
 ghost use Rattle.archive.specs.Copy.{copy-of};
 ghost use Rattle.archive.specs.Same.{same-of};
-ghost use Rattle.checking.specs.Promises.{check-of};
+ghost use Rattle.checking.specs.Check.{check-of};
 ghost use Rattle.patch.specs.Patch.{patch-of};
 ghost use Rattle.product.specs.Product.{product-of};
 ghost use Rattle.records.specs.Reading.{read-of};
-ghost use Rattle.senghovai.specs.Exports.{number-of, check-places, Ran, read-places, Wrote, same-number, same-places, write-places};
-ghost use Rattle.answers.specs.Refusals.{told};
+ghost use Rattle.senghovai.specs.Exports.{number-of, check-places, ExportsRun, read-places, ExportsWritten, same-number, same-places, write-places};
+ghost use Rattle.answers.specs.Refusals.{told-written};
 use answers::Written;
 use archive::Same;
 use checking::Checked;
-use reading::Found;
+use reading::Last;
 
 #[no_mangle]
 pub extern "C" fn senghovai_check(circuit: &[u8], answer: &mut [u64; 3]) -> u64
@@ -37,7 +37,7 @@ pub extern "C" fn senghovai_run(
     sheet: &mut [u8],
     answer: &mut [u64; 6],
 ) -> u64
-    ensures { λ r. ⌜ Ran (now (circuit .entry)) (now (coins .entry)) (now (sheet .entry)) r (now (answer .exit)) (now (sheet .exit)) ⌝ }
+    ensures { λ r. ⌜ ExportsRun (now (circuit .entry)) (now (coins .entry)) (now (sheet .entry)) r (now (answer .exit)) (now (sheet .exit)) ⌝ }
 {
     let mut told = [0u64; 6];
     let rest = library::run(circuit, coins, sheet, &mut told);
@@ -59,7 +59,7 @@ pub extern "C" fn senghovai_read(bytes: &[u8], answer: &mut [u64; 5]) -> u64
     let sheet = library::read_sheet(bytes);
     let found = sheet.found;
     match found {
-        Found::Record { start, outcomes } => {
+        Last::Record { start, outcomes } => {
             let size = bytes.len() - start;
             *answer = [
                 0,
@@ -70,7 +70,7 @@ pub extern "C" fn senghovai_read(bytes: &[u8], answer: &mut [u64; 5]) -> u64
             ];
             0
         }
-        Found::Refused(r) => {
+        Last::Refused(r) => {
             *answer = [answers::place(r) as u64, 0, 0, 0, 0];
             answers::number(r)
         }
@@ -79,7 +79,7 @@ pub extern "C" fn senghovai_read(bytes: &[u8], answer: &mut [u64; 5]) -> u64
 
 // Place and length of a function that writes bytes.
 fn tell(w: Written, answer: &mut [u64; 2]) -> u64
-    ensures { λ r. ⌜ (r ≡ number-of (told w)) × (now (answer .exit) ≡ write-places (told w)) ⌝ }
+    ensures { λ r. ⌜ (r ≡ number-of (told-written w)) × (now (answer .exit) ≡ write-places (told-written w)) ⌝ }
 {
     match w {
         Written::Bytes(count) => {
@@ -95,7 +95,7 @@ fn tell(w: Written, answer: &mut [u64; 2]) -> u64
 
 #[no_mangle]
 pub extern "C" fn senghovai_copy(bytes: &[u8], out: &mut [u8], answer: &mut [u64; 2]) -> u64
-    ensures { λ r. ⌜ Wrote (copy-of (now (bytes .entry))) (now (out .entry)) r (now (answer .exit)) (now (out .exit)) ⌝ }
+    ensures { λ r. ⌜ ExportsWritten (copy-of (now (bytes .entry))) (now (out .entry)) r (now (answer .exit)) (now (out .exit)) ⌝ }
 {
     let w = library::copy(bytes, out);
     tell(w, answer)
@@ -108,7 +108,7 @@ pub extern "C" fn senghovai_patch(
     out: &mut [u8],
     answer: &mut [u64; 2],
 ) -> u64
-    ensures { λ r. ⌜ Wrote (patch-of (now (bytes .entry)) (now (line .entry))) (now (out .entry)) r (now (answer .exit)) (now (out .exit)) ⌝ }
+    ensures { λ r. ⌜ ExportsWritten (patch-of (now (bytes .entry)) (now (line .entry))) (now (out .entry)) r (now (answer .exit)) (now (out .exit)) ⌝ }
 {
     let w = library::patch(bytes, line, out);
     tell(w, answer)
@@ -121,7 +121,7 @@ pub extern "C" fn senghovai_product(
     out: &mut [u8],
     answer: &mut [u64; 2],
 ) -> u64
-    ensures { λ r. ⌜ Wrote (product-of (now (first .entry)) (now (second .entry))) (now (out .entry)) r (now (answer .exit)) (now (out .exit)) ⌝ }
+    ensures { λ r. ⌜ ExportsWritten (product-of (now (first .entry)) (now (second .entry))) (now (out .entry)) r (now (answer .exit)) (now (out .exit)) ⌝ }
 {
     let w = library::product(first, second, out);
     tell(w, answer)

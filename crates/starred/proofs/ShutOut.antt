@@ -6,9 +6,9 @@ use Prim.Native.Nat.{ℕ}
 use lib.ListN.{length, getD, take, replicate}
 use Rattle.answers.specs.declared.Written.{Written}
 use Rattle.answers.specs.Verdict.{Verdict, accepted, refused}
-use Rattle.answers.specs.Refusals.{told, Writes}
+use Rattle.answers.specs.Refusals.{told-written, Writes}
 use Rattle.checking.specs.declared.Checked.{Checked}
-use Rattle.checking.specs.Promises.{Size, told-check, check-of}
+use Rattle.checking.specs.Check.{Size, told-check, check-of}
 use Rattle.pauli.specs.Texts.{listed}
 use Rattle.product.specs.Product.{product-of}
 use Rattle.records.specs.Record.{low-first, joined, rows-text, trailer, record-with}
@@ -57,6 +57,6 @@ pub constant-check-shut-out : (r s : Checked) → told-check r ≡ check-of ((81
 constant-check-shut-out r s e f = (e, f)
 
 -- a product that drops the sign: +XX times +ZZ is -YY
-pub unsigned-product-shut-out : (r : Written) (new : List ℕ) → Writes (product-of ((43 ∷ 88 ∷ 88 ∷ [])) ((43 ∷ 90 ∷ 90 ∷ []))) (zeros 3) r new → (told r ≡ accepted 3) × (new ≡ (45 ∷ 89 ∷ 89 ∷ []))
+pub unsigned-product-shut-out : (r : Written) (new : List ℕ) → Writes (product-of ((43 ∷ 88 ∷ 88 ∷ [])) ((43 ∷ 90 ∷ 90 ∷ []))) (zeros 3) r new → (told-written r ≡ accepted 3) × (new ≡ (45 ∷ 89 ∷ 89 ∷ []))
 unfolding listed
 unsigned-product-shut-out r new w = (w .answer, w .buffer)

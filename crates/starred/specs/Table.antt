@@ -16,13 +16,13 @@ use Rattle.run.specs.Run.{Sheet, run-of}
 
 -- two rows are multiplied; a gate is applied to a row; a circuit is run with coins
 pub data Asked : Type 0 where
-  product : (first second : List ℕ) → Asked
+  rows-multiplied : (first second : List ℕ) → Asked
   applied : Gate → (n : ℕ) → List ℕ → Asked
   ran : (circuit coins : List ℕ) → Asked
 
 -- a buffer of the longest record's length is lent
 abbrev pub answered : Asked → Verdict (List ℕ)
-answered (product first second) = product-of first second
+answered (rows-multiplied first second) = product-of first second
 answered (applied g n row) = accepted (row-text n (gate g (spelled row)))
 answered (ran circuit coins) = then (run-of circuit coins 12428) (λ s. accepted (s .bytes))
 
@@ -41,11 +41,11 @@ table =
     -- `Q 1`, nothing more: rows +X, +Z; a record of 16 bytes
     record { asked = ran (81 ∷ 32 ∷ 49 ∷ 10 ∷ []) []; answer = accepted (([]) ++ (43 ∷ 88 ∷ 43 ∷ 90 ∷ []) ++ trailer 1 0) }
     -- +XX times +ZZ is -YY: the powers sum to -2
-    ∷ record { asked = product (43 ∷ 88 ∷ 88 ∷ []) (43 ∷ 90 ∷ 90 ∷ []); answer = accepted (45 ∷ 89 ∷ 89 ∷ []) }
+    ∷ record { asked = rows-multiplied (43 ∷ 88 ∷ 88 ∷ []) (43 ∷ 90 ∷ 90 ∷ []); answer = accepted (45 ∷ 89 ∷ 89 ∷ []) }
     -- +ZZ times +XX is -YY: the powers sum to +2
-    ∷ record { asked = product (43 ∷ 90 ∷ 90 ∷ []) (43 ∷ 88 ∷ 88 ∷ []); answer = accepted (45 ∷ 89 ∷ 89 ∷ []) }
+    ∷ record { asked = rows-multiplied (43 ∷ 90 ∷ 90 ∷ []) (43 ∷ 88 ∷ 88 ∷ []); answer = accepted (45 ∷ 89 ∷ 89 ∷ []) }
     -- +X times +Z is refused, 12
-    ∷ record { asked = product (43 ∷ 88 ∷ []) (43 ∷ 90 ∷ []); answer = refused 12 0 }
+    ∷ record { asked = rows-multiplied (43 ∷ 88 ∷ []) (43 ∷ 90 ∷ []); answer = refused 12 0 }
     -- H on +Y gives -Y
     ∷ record { asked = applied (one H 0) 1 (43 ∷ 89 ∷ []); answer = accepted (45 ∷ 89 ∷ []) }
     -- S on +Y gives -X

@@ -15,7 +15,7 @@ use Rattle.clifford.specs.declared.Gate.the-variants.{One as one, Two as two}
 use Rattle.clifford.specs.Gates.{turns₁, new₁, gate, Fits}
 use Rattle.clifford.specs.Tableau.{blank, gated}
 use Rattle.packing.specs.View.{group-rows, rows-of}
-use Rattle.columns.specs.Gated.{Gated}
+use Rattle.columns.specs.parts.Gated.{Gated}
 use Rattle.columns.proofs.Views.{cond-same, row-eq, group-in, group-out}
 use Rattle.tableau.specs.declared.Tableau.{Tableau}
 use Rattle.tableau.specs.View.{rows}

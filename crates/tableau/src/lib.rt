@@ -7,9 +7,7 @@ ghost use Rattle.clifford.specs.Tableau.{start};
 ghost use Rattle.tableau.specs.View.{rows, Sized};
 ghost use Rattle.tableau.specs.Operations.{Applied, measured, answer};
 use clifford::Gate;
-use clifford::One;
-use clifford::Two;
-use columns::Found;
+use columns::LowestRow;
 
 pub struct Tableau {
     pub n: usize,
@@ -44,70 +42,6 @@ impl Tableau {
         }
     }
 
-    pub fn h(mut self, a: usize) -> Self
-        requires { ⌜ Sized self × (a < self .n) ⌝ }
-        ensures { λ r. ⌜ Applied (Gate.One One.H a) self r ⌝ }
-    {
-        columns::h(&mut self.destabilizers, a);
-        columns::h(&mut self.stabilizers, a);
-        self
-    }
-
-    pub fn s(mut self, a: usize) -> Self
-        requires { ⌜ Sized self × (a < self .n) ⌝ }
-        ensures { λ r. ⌜ Applied (Gate.One One.S a) self r ⌝ }
-    {
-        columns::s(&mut self.destabilizers, a);
-        columns::s(&mut self.stabilizers, a);
-        self
-    }
-
-    pub fn x(mut self, a: usize) -> Self
-        requires { ⌜ Sized self × (a < self .n) ⌝ }
-        ensures { λ r. ⌜ Applied (Gate.One One.PauliX a) self r ⌝ }
-    {
-        columns::x(&mut self.destabilizers, a);
-        columns::x(&mut self.stabilizers, a);
-        self
-    }
-
-    pub fn y(mut self, a: usize) -> Self
-        requires { ⌜ Sized self × (a < self .n) ⌝ }
-        ensures { λ r. ⌜ Applied (Gate.One One.PauliY a) self r ⌝ }
-    {
-        columns::y(&mut self.destabilizers, a);
-        columns::y(&mut self.stabilizers, a);
-        self
-    }
-
-    pub fn z(mut self, a: usize) -> Self
-        requires { ⌜ Sized self × (a < self .n) ⌝ }
-        ensures { λ r. ⌜ Applied (Gate.One One.PauliZ a) self r ⌝ }
-    {
-        columns::z(&mut self.destabilizers, a);
-        columns::z(&mut self.stabilizers, a);
-        self
-    }
-
-    // The control is a.
-    pub fn cx(mut self, a: usize, b: usize) -> Self
-        requires { ⌜ Sized self × (a < self .n) × (b < self .n) × (a ≡ b → ⊥) ⌝ }
-        ensures { λ r. ⌜ Applied (Gate.Two Two.Cx a b) self r ⌝ }
-    {
-        columns::cx(&mut self.destabilizers, a, b);
-        columns::cx(&mut self.stabilizers, a, b);
-        self
-    }
-
-    pub fn cz(mut self, a: usize, b: usize) -> Self
-        requires { ⌜ Sized self × (a < self .n) × (b < self .n) × (a ≡ b → ⊥) ⌝ }
-        ensures { λ r. ⌜ Applied (Gate.Two Two.Cz a b) self r ⌝ }
-    {
-        columns::cz(&mut self.destabilizers, a, b);
-        columns::cz(&mut self.stabilizers, a, b);
-        self
-    }
-
     pub fn gate(mut self, g: Gate) -> Self
         requires { ⌜ Sized self × Fits (self .n) g ⌝ }
         ensures { λ r. ⌜ Applied g self r ⌝ }
@@ -127,8 +61,8 @@ impl Tableau {
         let mut s = self.stabilizers;
         let found = columns::random_row(&s, n, a);
         match found {
-            Found::At(p) => {
-                collapse::collapse(&mut d, &mut s, n, a, p, coin);
+            LowestRow::At(p) => {
+                measure_random::collapse(&mut d, &mut s, n, a, p, coin);
                 let tableau = Tableau {
                     n,
                     destabilizers: d,
@@ -140,8 +74,8 @@ impl Tableau {
                     value: coin,
                 }
             }
-            Found::Nothing => {
-                let value = ordered::fixed_value(&d, &s, n, a);
+            LowestRow::Nothing => {
+                let value = measure_fixed::fixed_value(&d, &s, n, a);
                 Measured {
                     tableau: self,
                     random: false,

@@ -1,1 +1,2 @@
 pub mod Tally
+pub mod parts

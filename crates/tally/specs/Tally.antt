@@ -1,22 +1,21 @@
 -- The tally of a run: how many measurements so far, how many random, how many coins taken. Document 01, "The operations". Assumes nothing.
 use mathlib.Core.Bool.{Bool, true, false}
 use mathlib.Core.List.{List, [], _∷_}
-use Prim.Native.Nat.{ℕ, _+_}
+use Prim.Native.Nat.{ℕ, _+_, _-_}
+use lib.ListN.{length}
 use Rattle.clifford.specs.Measurement.{Outcome}
+use Rattle.clifford.specs.Run.{State}
 use Rattle.tally.specs.declared.Tally.{Tally}
-
-abbrev pub none-yet : Tally
-none-yet = record { measured = 0; random = 0; taken = 0 }
 
 abbrev pub one-if : Bool → ℕ
 one-if true = 1
 one-if false = 0
 
--- at each measurement: one more, and one more random with its coin where it is random
-abbrev pub stepped : Bool → Tally → Tally
-stepped random t = record { measured = t .measured + 1; random = t .random + one-if random; taken = t .taken + one-if random }
+-- how many of the outcomes are random
+abbrev pub randoms : List Outcome → ℕ
+randoms [] = 0
+randoms (o ∷ outcomes) = one-if (o .random) + randoms outcomes
 
--- stepped through these outcomes in order
-abbrev pub tallied : Tally → List Outcome → Tally
-tallied t [] = t
-tallied t (o ∷ outcomes) = tallied (stepped (o .random) t) outcomes
+-- of a run that was lent these coins and stands here: its outcomes, the random ones among them, and the coins that are gone
+abbrev pub tally-of : List ℕ → State → Tally
+tally-of lent s = record { measured = length (s .outcomes); random = randoms (s .outcomes); taken = length lent - length (s .coins) }

@@ -1,7 +1,9 @@
-// The tally of a run, stepped at each measurement (document 01, "The operations"): by value, and in a struct that is lent by `&mut`. Both forms step plain numbers by `next`; `stepped_numbers` serves whoever has numbers and no reference.
+// The tally of a run, stepped at each measurement (document 01, "The operations"): `next` by value, and `step_lent` in a struct that is lent by `&mut`;
+// `stepped_numbers` serves whoever has numbers and no reference.
 ghost use mathlib.Core.Path.{_≡_};
 ghost use Prim.Native.Nat.{_+_, _<_};
-ghost use Rattle.tally.specs.Tally.{one-if, stepped};
+ghost use Rattle.tally.specs.Tally.{one-if};
+ghost use Rattle.tally.specs.parts.Stepping.{stepped};
 
 // Measurements so far, random ones among them, and coins taken.
 pub struct Tally {
@@ -26,15 +28,6 @@ fn next(measured: usize, drawn: usize, taken: usize, random: bool) -> Tally
         measured: more(measured, true),
         random: more(drawn, random),
         taken: more(taken, random),
-    }
-}
-
-impl Tally {
-    pub fn step(self, random: bool) -> Self
-        requires { ⌜ (self .measured < 4096) × (self .random < 4096) × (self .taken < 4096) ⌝ }
-        ensures { λ r. ⌜ r ≡ stepped random self ⌝ }
-    {
-        next(self.measured, self.random, self.taken, random)
     }
 }
 

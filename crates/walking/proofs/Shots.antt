@@ -9,7 +9,7 @@ use lib.Seq.{drop-cons}
 use Rattle.clifford.specs.Tableau.{Rows}
 use Rattle.clifford.specs.Measurement.{random-row, collapsed}
 use Rattle.clifford.specs.Run.{coin}
-use Rattle.walking.specs.Walk.{Random, Dry}
+use Rattle.walking.specs.parts.Walk.{Random, Dry}
 
 module _ (n a : ℕ) (t : Rows) (coins : List ℕ) (used : ℕ) where
   pub was-dry : (p : ℕ) → some p ≡ random-row n a t → length coins ≤ used → Dry n a t (drop used coins)

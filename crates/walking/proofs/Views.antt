@@ -17,24 +17,25 @@ use Rattle.clifford.specs.Tableau.{Rows, gated, start}
 use Rattle.clifford.specs.Measurement.{random-row, collapsed, fixed-value, Outcome}
 use Rattle.clifford.specs.Run.{State, coin, settle, step, begin}
 use Rattle.packing.specs.View.{Words, rows-of}
-use Rattle.columns.specs.Gated.{Gated}
+use Rattle.columns.specs.parts.Gated.{Gated}
 use Rattle.tableau.proofs.Gated.{gated-both}
 use Rattle.records.specs.Record.{mark, mark-of}
 use Rattle.tally.specs.declared.Tally.{Tally}
-use Rattle.tally.specs.Tally.{none-yet, stepped}
+use Rattle.tally.specs.Tally.{one-if}
+use Rattle.tally.specs.parts.Stepping.{none-yet, stepped}
 use Rattle.circuit.specs.Lines.{op-line}
-use Rattle.circuit.specs.Reading.{Stands}
+use Rattle.circuit.specs.parts.Reading.{Stands}
 use Rattle.circuit.specs.Text.{all-below}
-use Rattle.coded.specs.Coded.{op-in, length-in, Allowed}
-use Rattle.coded.proofs.Codes.{allowed-valid}
+use Rattle.quick_lines.specs.parts.Coded.{op-in, length-in, Allowed}
+use Rattle.quick_lines.proofs.Codes.{allowed-valid}
 use Rattle.walking.specs.declared.Step.{Step}
 use Rattle.walking.specs.declared.Step.the-variants as steps
-use Rattle.walking.specs.Walk.{Fixed, Random, Dry, View, Went, Goes, MeasureAs, Applies, StepAs}
-use Rattle.tally.proofs.Tallies.{tallied-more}
+use Rattle.walking.specs.parts.Walk.{Fixed, Random, Dry, View, Went, Goes, MeasureAs, Applies, StepAs}
+use Rattle.tally.proofs.Tallies.{tally-begin, tally-stepped}
 
 pub view-begin : (n : ℕ) (coins d s marks : List ℕ) → Words d → Words s → length marks ≡ 4096 → start n ≡ rows-of n d s → View n coins (begin n coins) d s marks none-yet
 view-begin n coins d s marks wd ws lm e =
-    record { d-words = wd; s-words = ws; room = lm; rows-are = e; count = refl; marks-are = refl; tally-is = refl; coins-are = refl; enough = omega arith }
+    record { d-words = wd; s-words = ws; room = lm; rows-are = e; count = refl; marks-are = refl; tally-is = tally-begin n coins; coins-are = refl; enough = omega arith }
 
 map-more : (f : Outcome → ℕ) (l : List Outcome) (o : Outcome) → map f (l ++ (o ∷ [])) ≡ map f l ++ (f o ∷ [])
 map-more f [] o = refl
@@ -60,9 +61,9 @@ module _ (n : ℕ) (coins : List ℕ) (e : State) (d s marks : List ℕ) (t : Ta
 
   -- one outcome more, with rows and coins as they then are
   viewed : (o : Outcome) (t′ : Rows) (left d′ s′ : List ℕ) (m : ℕ) (u : Tally) → Words d′ → Words s′ → t′ ≡ rows-of n d′ s′ → m ≡ mark o → u ≡ stepped (o .random) t
-      → t .measured < 4096 → left ≡ drop (u .taken) coins → u .taken ≤ length coins
+      → t .measured < 4096 → left ≡ drop (u .taken) coins → u .taken ≤ length coins → length (e .coins) ≡ one-if (o .random) + length left
       → View n coins (record { outcomes = e .outcomes ++ (o ∷ []); rows = t′; coins = left }) d′ s′ (set marks (t .measured) m) u
-  viewed o t′ left d′ s′ m u wd ws r em eu h el eh =
+  viewed o t′ left d′ s′ m u wd ws r em eu h el eh ec =
       let c : u .measured ≡ t .measured + 1 = ap (λ (w : Tally). w .measured) eu in
       record {
         d-words = wd;
@@ -73,7 +74,7 @@ module _ (n : ℕ) (coins : List ℕ) (e : State) (d s marks : List ℕ) (t : Ta
         marks-are =
             map-more mark (e .outcomes) o ∙ ap₂ (λ (l : List ℕ) (k : ℕ). l ++ (k ∷ [])) (v .marks-are) (sym em)
             ∙ sym (take-suc-set marks (t .measured) m (omega (arith, v .room))) ∙ ap (λ (k : ℕ). take k (set marks (t .measured) m)) (sym (add-one (t .measured)) ∙ sym c);
-        tally-is = eu ∙ ap (stepped (o .random)) (v .tally-is) ∙ sym (tallied-more none-yet (e .outcomes) o);
+        tally-is = eu ∙ ap (stepped (o .random)) (v .tally-is) ∙ tally-stepped coins e o t′ left ec (omega (arith, ap length (v .coins-are), length-drop (t .taken) coins));
         coins-are = el;
         enough = eh;
       }
@@ -87,7 +88,7 @@ module _ (n : ℕ) (coins : List ℕ) (e : State) (d s marks : List ℕ) (t : Ta
         state = record { outcomes = e .outcomes ++ (record { random = false; value = fixed-value n a (e .rows) } ∷ []); rows = e .rows; coins = e .coins };
         is = ap (λ (o : Option ℕ). settle n line a e o (e .coins)) (ap (random-row n a) (v .rows-are) ∙ f .kind);
         view = viewed (record { random = false; value = fixed-value n a (e .rows) }) (e .rows) (e .coins) d′ s′ m u wd ws (v .rows-are ∙ sym (f .kept)) (em ∙ ap (mark-of false) fv) eu h
-            (v .coins-are ∙ ap (λ (i : ℕ). drop i coins) (sym k)) (omega (arith, k, v .enough));
+            (v .coins-are ∙ ap (λ (i : ℕ). drop i coins) (sym k)) (omega (arith, k, v .enough)) (omega arith);
       }
 
   pub went-random : (line a : ℕ) (value : Bool) (d′ s′ : List ℕ) (m : ℕ) (u : Tally) → Words d′ → Words s′ → Random n a (rows-of n d s) (drop (t .taken) coins) value (rows-of n d′ s′)
@@ -101,7 +102,7 @@ module _ (n : ℕ) (coins : List ℕ) (e : State) (d s marks : List ℕ) (t : Ta
         state = record { outcomes = e .outcomes ++ (record { random = true; value = coin (f .byte) } ∷ []); rows = collapsed n a (f .row) (coin (f .byte)) (e .rows); coins = f .left };
         is = ap₂ (settle n line a e) (ap (random-row n a) (v .rows-are) ∙ f .kind) c;
         view = viewed (record { random = true; value = coin (f .byte) }) _ (f .left) d′ s′ m u wd ws
-            (ap₂ (collapsed n a (f .row)) (sym (f .is)) (v .rows-are) ∙ sym (f .after)) (em ∙ ap (mark-of true) (f .is)) eu h (sym l) (omega (arith, k, g));
+            (ap₂ (collapsed n a (f .row)) (sym (f .is)) (v .rows-are) ∙ sym (f .after)) (em ∙ ap (mark-of true) (f .is)) eu h (sym l) (omega (arith, k, g)) (omega (arith, ap length c));
       }
 
   pub went-dry : (line a : ℕ) → Dry n a (rows-of n d s) (drop (t .taken) coins) → step n line (measure a) e ≡ refused 7 line

@@ -5,17 +5,19 @@ use Prim.Native.Nat.{ℕ, suc, _+_, _-_, _≤_, _<_}
 use native.Mathlib.Numerals.{add-one}
 use native.Mathlib.Omega.{arith}
 use lib.ListN.{length, drop}
+use Rattle.clifford.specs.Limits.{most-operations}
 use Rattle.answers.specs.Verdict.{Verdict, accepted, refused, then}
 use Rattle.clifford.specs.declared.Op.{Op}
 use Rattle.clifford.specs.Run.{State, run, begin}
-use Rattle.circuit.specs.Text.{operations, most-operations}
+use Rattle.circuit.specs.Text.{operations}
 use Rattle.circuit.proofs.Positions.{front, past}
 use Rattle.checking.proofs.Counting.{then-then}
 use Rattle.circuit.proofs.Walk.{then-accepted, allowed-line, operations-end, next-line, next-at}
 use Rattle.tally.specs.declared.Tally.{Tally}
-use Rattle.tally.specs.Tally.{none-yet}
-use Rattle.walking.specs.Walk.{View, Goes, Stops, Room, lines-of, or-none, Ended, Stuck, Walkable}
-use Rattle.tally.proofs.Tallies.{tally-tied, randoms, randoms-within}
+use Rattle.tally.specs.Tally.{randoms}
+use Rattle.tally.specs.parts.Stepping.{none-yet}
+use Rattle.walking.specs.parts.Walk.{View, Goes, Stops, Room, lines-of, or-none, Ended, Stuck, Walkable}
+use Rattle.tally.proofs.Tallies.{tally-tied, randoms-within}
 use Rattle.walking.proofs.Counting.{step-count, measures-one}
 use Rattle.walking.proofs.Views.{view-begin}
 
@@ -55,10 +57,10 @@ module _ (text : List ℕ) (body n : ℕ) (coins : List ℕ) where
     -- the counters have room
     pub walk-room : n ≤ 64 → (line ≡ 4098 → ⊥) → Room n coins d s marks t
     walk-room h l =
-        let m = tally-tied (w .state .outcomes) in
+        let m = tally-tied n 2 (w .done ++ []) coins (w .state) (w .so-far []) in
         let c : t .measured < 4096 = omega (arith, w .count, w .lines) in
-        let r : t .random ≡ randoms (w .state .outcomes) = ap (λ (u : Tally). u .random) (w .view .tally-is) ∙ m .random in
-        let p : t .taken ≡ randoms (w .state .outcomes) = ap (λ (u : Tally). u .taken) (w .view .tally-is) ∙ m .taken in
+        let r : t .random ≡ randoms (w .state .outcomes) = ap (λ (u : Tally). u .random) (w .view .tally-is) in
+        let p : t .taken ≡ randoms (w .state .outcomes) = ap (λ (u : Tally). u .taken) (w .view .tally-is) ∙ sym (m .random-taken) in
         record {
           qubits = h;
           d-words = w .view .d-words;

@@ -4,11 +4,11 @@ ghost use mathlib.Core.Path.{_≡_};
 ghost use Prim.Native.Nat.{_≤_, _<_};
 ghost use lib.ListN.{length, drop};
 ghost use Rattle.clifford.specs.Run.{Valid};
-ghost use Rattle.coded.specs.Coded.{op-in, name-in};
+ghost use Rattle.quick_lines.specs.parts.Coded.{op-in, name-in};
 ghost use Rattle.packing.specs.View.{Words, rows-of};
 ghost use Rattle.records.specs.Record.{mark-of};
-ghost use Rattle.walking.specs.Walk.{ShotAs, Room, MeasureAs, Applies, StepAs, Walkable, WalkAs};
-use columns::Found;
+ghost use Rattle.walking.specs.parts.Walk.{ShotAs, Room, MeasureAs, Applies, StepAs, Walkable, WalkAs};
+use columns::LowestRow;
 use tally::Tally;
 
 // What a measurement answers: its value, or that it is random and finds no coin.
@@ -30,13 +30,13 @@ fn shoot(
     ensures { λ r. ⌜ Words (now (d .exit)) × Words (now (s .exit)) × ShotAs n a (rows-of n (now (d .entry)) (now (s .entry))) (drop used (now (coins .entry))) r (rows-of n (now (d .exit)) (now (s .exit))) ⌝ }
 {
     match columns::random_row(s, n, a) {
-        Found::Nothing => Shot::Fixed(ordered::fixed_value(d, s, n, a)),
-        Found::At(p) => {
+        LowestRow::Nothing => Shot::Fixed(measure_fixed::fixed_value(d, s, n, a)),
+        LowestRow::At(p) => {
             if coins.len() <= used {
                 return Shot::NoCoin;
             }
             let coin = coins[used] % 2 == 1;
-            collapse::collapse(d, s, n, a, p, coin);
+            measure_random::collapse(d, s, n, a, p, coin);
             Shot::Random(coin)
         }
     }
@@ -93,9 +93,9 @@ fn apply(d: &mut [u64; 129], s: &mut [u64; 129], code: usize)
     requires { ⌜ Words (now d) × Words (now s) × Valid 64 (op-in code) × (name-in code ≡ 77 → ⊥) ⌝ }
     ensures { λ _. ⌜ Applies code (now (d .entry)) (now (s .entry)) (now (d .exit)) (now (s .exit)) ⌝ }
 {
-    let name = coded::code::name(code);
-    let a = coded::code::first(code);
-    let b = coded::code::second(code);
+    let name = quick_lines::code::name(code);
+    let a = quick_lines::code::first(code);
+    let b = quick_lines::code::second(code);
     if name == 1 {
         columns::cx(d, a, b);
         columns::cx(s, a, b);
@@ -123,13 +123,13 @@ fn turn(
     requires { ⌜ Room n (now coins) (now d) (now s) (now marks) tally ⌝ }
     ensures { λ r. ⌜ StepAs (now (text .entry)) at n (now (coins .entry)) (now (d .entry)) (now (s .entry)) (now (marks .entry)) tally r (now (d .exit)) (now (s .exit)) (now (marks .exit)) ⌝ }
 {
-    let code = coded::op_at(text, at, n);
+    let code = quick_lines::op_at(text, at, n);
     if code == 0 {
         return Step::Refused;
     }
-    let next = at + coded::code::length(code);
-    if coded::code::name(code) == 77 {
-        let a = coded::code::first(code);
+    let next = at + quick_lines::code::length(code);
+    if quick_lines::code::name(code) == 77 {
+        let a = quick_lines::code::first(code);
         return measure(d, s, marks, n, a, coins, tally, next);
     }
     apply(d, s, code);

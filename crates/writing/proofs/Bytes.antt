@@ -14,7 +14,7 @@ use lib.Seq.{getD-set-same, getD-set-other}
 use borrow.Author.Tests.{eq-eqb, ne-eqb}
 use Rattle.words.specs.Bit.{bit}
 use Rattle.words.proofs.BitLaws.{bit-and, bit-ones}
-use Rattle.writing.specs.Planes.{Plane-of}
+use Rattle.writing.specs.parts.Planes.{Plane-of}
 
 -- ---- bits of a byte of a word
 

@@ -6,12 +6,13 @@ use Prim.Native.Nat.{ℕ, _≤_}
 use lib.Dec.{ltb}
 use lib.ListN.{length}
 use borrow.Author.Tests.{le-ltb}
+use Rattle.clifford.specs.Limits.{most-operations, most-qubits}
 use Rattle.answers.specs.Verdict.{accepted}
 use Rattle.pauli.specs.Letters.{I}
 use Rattle.clifford.specs.Tableau.{blank, Paired}
 use Rattle.packing.specs.View.{letter-at, row-at, group-rows, rows-of}
 use Rattle.records.specs.Record.{record-with, record-length}
-use Rattle.records.specs.Reading.{read-of, most-qubits, most-outcomes}
+use Rattle.records.specs.Reading.{read-of}
 use Rattle.records.proofs.Outcomes.{Marks}
 use Rattle.records.proofs.Held.{Tidy, Clean}
 use Rattle.records.proofs.Written.{written-reads}
@@ -30,7 +31,7 @@ group-tidy n w = record {
 pub rows-clean : (n : ℕ) (d s : List ℕ) → Clean n (rows-of n d s)
 rows-clean n d s = record { destabilizers = group-tidy n d; stabilizers = group-tidy n s }
 
-pub packed-reads : (n : ℕ) (before marks d s : List ℕ) → 1 ≤ n → n ≤ most-qubits → length marks ≤ most-outcomes → Marks marks → Paired n (rows-of n d s)
+pub packed-reads : (n : ℕ) (before marks d s : List ℕ) → 1 ≤ n → n ≤ most-qubits → length marks ≤ most-operations → Marks marks → Paired n (rows-of n d s)
     → read-of (before ++ record-with n marks (rows-of n d s)) ≡ accepted (record { qubits = n; size = record-length n (length marks); marks = marks; rows = rows-of n d s })
 packed-reads n before marks d s least most few marked paired =
     written-reads n marks (rows-of n d s) (record { least = least; most = most; few = few; marked = marked; paired = paired; clean = rows-clean n d s }) before

@@ -8,7 +8,7 @@ use Rattle.answers.specs.Verdict.{over}
 use Rattle.packing.specs.View.{rows-of}
 use Rattle.records.specs.Record.{low-first, to-rows, trailer, rows-text, record-with, record-length}
 use Rattle.records.proofs.Lengths.{length-trailer}
-use Rattle.writing.specs.Placed.{placed, group-text}
+use Rattle.writing.specs.parts.Placed.{placed, group-text}
 use Rattle.writing.proofs.Placing.{placed-front, then-placed}
 use Rattle.writing.proofs.Texts.{length-group-text}
 

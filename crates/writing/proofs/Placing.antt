@@ -8,7 +8,7 @@ use native.Mathlib.Omega.{arith}
 use lib.ListN.{length, take, drop, set, length-append, length-take, length-drop, take-append-drop}
 use lib.Seq.{length-take-le, take-at, drop-at, drop-drop, set-split, append-snoc}
 use Rattle.answers.specs.Verdict.{over}
-use Rattle.writing.specs.Placed.{placed}
+use Rattle.writing.specs.parts.Placed.{placed}
 
 pub placed-none : (old : List ℕ) (at : ℕ) → old ≡ placed old at []
 unfolding placed

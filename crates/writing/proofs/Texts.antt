@@ -17,8 +17,8 @@ use Rattle.packing.specs.View.{letter-at, row-at, group-rows}
 use Rattle.records.specs.Record.{joined}
 use Rattle.records.proofs.Joined.{listed-more, joined-more}
 use Rattle.records.proofs.Lengths.{length-row-text, length-joined}
-use Rattle.writing.specs.Placed.{placed, group-text}
-use Rattle.writing.specs.Planes.{plane-bit, Plane-of, letter-in, row-in}
+use Rattle.writing.specs.parts.Placed.{placed, group-text}
+use Rattle.writing.specs.parts.Planes.{plane-bit, Plane-of, plane-letter, plane-row}
 use Rattle.writing.proofs.Placing.{set-placed, then-placed}
 
 -- ---- one more letter
@@ -26,23 +26,23 @@ use Rattle.writing.proofs.Placing.{set-placed, then-placed}
 module _ (xs zs : List ℕ) (i : ℕ) where
   -- the first k letters of row i
   unfoldable pub row-letters : ℕ → List ℕ
-  row-letters k = listed (λ j. letter-byte (letter-in xs zs i j)) k
+  row-letters k = listed (λ j. letter-byte (plane-letter xs zs i j)) k
 
   pub row-letters-none : row-letters 0 ≡ []
   unfolding row-letters listed
   row-letters-none = refl
 
-  pub row-letters-more : (k b : ℕ) → b ≡ letter-byte (letter-in xs zs i k) → row-letters k ++ b ∷ [] ≡ row-letters (k + 1)
+  pub row-letters-more : (k b : ℕ) → b ≡ letter-byte (plane-letter xs zs i k) → row-letters k ++ b ∷ [] ≡ row-letters (k + 1)
   unfolding row-letters
   row-letters-more k b e =
-      ap (λ (a : ℕ). row-letters k ++ a ∷ []) e ∙ sym (listed-more (λ j. letter-byte (letter-in xs zs i j)) k) ∙ ap (listed (λ j. letter-byte (letter-in xs zs i j))) (sym (add-one k))
+      ap (λ (a : ℕ). row-letters k ++ a ∷ []) e ∙ sym (listed-more (λ j. letter-byte (plane-letter xs zs i j)) k) ∙ ap (listed (λ j. letter-byte (plane-letter xs zs i j))) (sym (add-one k))
 
   pub length-row-letters : (k : ℕ) → length (row-letters k) ≡ k
   unfolding row-letters
-  length-row-letters k = length-listed (λ j. letter-byte (letter-in xs zs i j)) k
+  length-row-letters k = length-listed (λ j. letter-byte (plane-letter xs zs i j)) k
 
   -- a sign, and the letters behind it
-  pub row-placed : (signs n : ℕ) (old : List ℕ) (at b : ℕ) → at + (n + 1) ≤ length old → b ≡ sign-byte (bit i signs) → placed (set old at b) (at + 1) (row-letters n) ≡ placed old at (row-text n (row-in xs zs signs i))
+  pub row-placed : (signs n : ℕ) (old : List ℕ) (at b : ℕ) → at + (n + 1) ≤ length old → b ≡ sign-byte (bit i signs) → placed (set old at b) (at + 1) (row-letters n) ≡ placed old at (row-text n (plane-row xs zs signs i))
   unfolding row-letters
   row-placed signs n old at b h e =
       then-placed old (set old at b) at (b ∷ []) (set-placed old at b (omega arith)) _ (at + 1) (row-letters n) refl refl (omega (arith, length-row-letters n))
@@ -52,12 +52,12 @@ module _ (xs zs : List ℕ) (i : ℕ) where
 
 -- a row that the planes of a group hold is the group's
 module _ (w xs zs : List ℕ) (px : Plane-of w 0 xs) (pz : Plane-of w 64 zs) (n i : ℕ) (most : n ≤ 64) (h : i < 64) where
-  same-letter : (j : ℕ) → j < n → letter-byte (letter-in xs zs i j) ≡ letter-byte (cond (ltb j n) (letter-at w i j) I)
+  same-letter : (j : ℕ) → j < n → letter-byte (plane-letter xs zs i j) ≡ letter-byte (cond (ltb j n) (letter-at w i j) I)
   same-letter j l =
       let x : plane-bit xs i j ≡ bit i (getD w j 0) = px i j h (omega arith) ∙ ap (λ (k : ℕ). bit i (getD w k 0)) (zero-add j) in
       rw (lt-ltb j n l) (ap₂ (λ (a b : Bool). letter-byte (letter a b)) x (pz i j h (omega arith)))
 
-  pub group-row : (old new : List ℕ) (at : ℕ) → new ≡ placed old at (row-text n (row-in xs zs (getD w 128 0) i)) → new ≡ placed old at (row-text n (row-at n w i))
+  pub group-row : (old new : List ℕ) (at : ℕ) → new ≡ placed old at (row-text n (plane-row xs zs (getD w 128 0) i)) → new ≡ placed old at (row-text n (row-at n w i))
   unfolding row-at
   group-row old new at e = e ∙ ap (λ t. placed old at (sign-byte (bit i (getD w 128 0)) ∷ t)) (listed-ext _ _ n same-letter)
 

@@ -1,2 +1,1 @@
-pub mod Placed
-pub mod Planes
+pub mod parts

@@ -11,8 +11,8 @@ ghost use Rattle.pauli.specs.Texts.{letter-byte, sign-byte, row-text};
 ghost use Rattle.words.specs.Bit.{bit};
 ghost use Rattle.packing.specs.View.{rows-of};
 ghost use Rattle.records.specs.Record.{low-first, to-rows, trailer, record-with, record-length};
-ghost use Rattle.writing.specs.Placed.{placed, group-text};
-ghost use Rattle.writing.specs.Planes.{Plane-of, letter-in, row-in};
+ghost use Rattle.writing.specs.parts.Placed.{placed, group-text};
+ghost use Rattle.writing.specs.parts.Planes.{Plane-of, plane-letter, plane-row};
 
 // The 64 words from `from` on as bytes, one for eight rows and a qubit: that of rows 8r to 8r + 7 and qubit j is byte 64r + j.
 fn plane(w: &[u64; 129], from: usize) -> [u8; 512]
@@ -40,7 +40,7 @@ fn letter_byte(x: bool, z: bool) -> u8
 
 fn letter_in(xs: &[u8; 512], zs: &[u8; 512], i: usize, j: usize) -> u8
     requires { ⌜ (i < 64) × (j < 64) ⌝ }
-    ensures { λ r. ⌜ r ≡ letter-byte (letter-in (now (xs .entry)) (now (zs .entry)) i j) ⌝ }
+    ensures { λ r. ⌜ r ≡ letter-byte (plane-letter (now (xs .entry)) (now (zs .entry)) i j) ⌝ }
 {
     let at = 64 * (i / 8) + j;
     let bit = 1u8 << (i % 8);
@@ -64,7 +64,7 @@ fn put_row(
     n: usize,
 )
     requires { ⌜ (i < 64) × (n ≤ 64) × (at + (n + 1) ≤ length (now out)) ⌝ }
-    ensures { λ _. ⌜ now (out .exit) ≡ placed (now (out .entry)) at (row-text n (row-in (now (xs .entry)) (now (zs .entry)) signs i)) ⌝ }
+    ensures { λ _. ⌜ now (out .exit) ≡ placed (now (out .entry)) at (row-text n (plane-row (now (xs .entry)) (now (zs .entry)) signs i)) ⌝ }
 {
     out[at] = sign_byte(signs, i);
     let first = at + 1;

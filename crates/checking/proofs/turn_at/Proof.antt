@@ -1,6 +1,6 @@
 -- `circuit::turn_at` meets its contract. Assumes nothing.
 use Prim.Native.Nat.{_+_}
-use Rattle.coded.specs.Coded.{op-in}
+use Rattle.quick_lines.specs.parts.Coded.{op-in}
 use native.Mathlib.Omega.{arith}
 use Rattle.checking.proofs.Counting.{passes}
 use borrow.Author.Needs.{needs}

@@ -1,4 +1,4 @@
--- `patch::patch` meets its contract: the record that was found is written with the gate on both groups, or the refusal handed on. Assumes nothing.
+-- `patch::patch` meets its contract: the record that was found is written with the gate on its rows, or the refusal handed on. Assumes nothing.
 use borrow.Author.Needs.{needs}
 use mathlib.Core.Path.{_≡_, sym, _∙_, ap}
 use native.Mathlib.Omega.{arith}
@@ -7,8 +7,8 @@ use Rattle.answers.proofs.Answered.{refuses, has-no-room, has-written}
 use Rattle.reading.specs.Answer.{Within}
 use Rattle.reading.proofs.Answers.{within}
 use Rattle.patch.specs.Patch.{gate-for}
-use Rattle.patch.specs.Given.{told-gate}
-use Rattle.patch.proofs.Patching.{not-patched, part-length, too-short, has-room, as-many, line-refused, patches, fits-group, patches-words}
+use Rattle.patch.specs.parts.Given.{told-gate}
+use Rattle.patch.proofs.Patching.{not-patched, part-length, too-short, has-room, as-many, line-refused, patches, fits, patches-rows}
 use Rattle.patch.proofs.patch.Statement.{statement}
 use Rattle.patch.proofs.patch.Tie as tie
 
@@ -48,22 +48,14 @@ returns c =
 
 gate-requires : tie.Need-gate-requires
 gate-requires c κs =
-    let g = c .before .before .before .before .before .before in
+    let g = c .before .before .before .before .before in
     let f = g .before .before .before .before in
     let r = f .before .before in
     let e = r .before .before .before .before .args in
-    (search needs, fits-group (e .bytes .now) (e .line .now) (r .read .result) (r .read .ensures) _ _ (f .found .given .1) _ (gate-is g))
-
-gate-requires-2 : tie.Need-gate-requires-2
-gate-requires-2 c κs =
-    let g = c .before .before .before .before .before .before .before .before in
-    let f = g .before .before .before .before in
-    let r = f .before .before in
-    let e = r .before .before .before .before .args in
-    (search needs, fits-group (e .bytes .now) (e .line .now) (r .read .result) (r .read .ensures) _ _ (f .found .given .1) _ (gate-is g))
+    ((inside f .least, inside f .most), fits (e .bytes .now) (e .line .now) (r .read .result) (r .read .ensures) _ _ (f .found .given .1) _ (gate-is g))
 
 add-end : tie.Need-add-end
-add-end c = omega (arith, inside (c .before .before .before .before .before .before .before .before .before .before .before .before .before))
+add-end c = omega (arith, inside (c .before .before .before .before .before .before .before .before .before .before .before .before))
 
 sub-put-record : tie.Need-sub-put-record
 sub-put-record c = search needs
@@ -72,16 +64,16 @@ part-put-record-start : tie.Need-part-put-record-start
 part-put-record-start c = search needs
 
 part-put-record-end : tie.Need-part-put-record-end
-part-put-record-end c = omega (arith, inside (c .before .before .before .before .before .before .before .before .before .before .before .before .before .before))
+part-put-record-end c = omega (arith, inside (c .before .before .before .before .before .before .before .before .before .before .before .before .before))
 
 put-record-requires : tie.Need-put-record-requires
 put-record-requires c κs =
-    let g = c .before .before .before .before .before .before .before .before .before .before .before .before .before in
+    let g = c .before .before .before .before .before .before .before .before .before .before .before .before in
     let f = g .before .before .before .before in
     let r = f .before .before in
     let e = r .before .before .before .before .args in
     let k = part-length (e .bytes .now) (e .line .now) (r .read .result) (r .read .ensures) _ _ (f .found .given .1) in
-    (inside f .least, inside f .most, omega (arith, k, inside f .few), omega (arith, k, c .before .before .before .before .before .before .before .before .before .before .before .record-size .ensures, c .before .before .before .before .before .before .before .before .before .before .if1 .left))
+    (inside f .least, inside f .most, omega (arith, k, inside f .few), omega (arith, k, c .before .before .before .before .before .before .before .before .before .before .record-size .ensures, c .before .before .before .before .before .before .before .before .before .if1 .left))
 
 enum-known-why : tie.Need-enum-known-why
 enum-known-why c = search needs
@@ -94,13 +86,13 @@ same-length c = search needs
 
 returns-2 : tie.Need-returns-2
 returns-2 c =
-    let g = c .before .before .before .before .before .before .before .before .before .before .before .before .before .before .before .before in
+    let g = c .before .before .before .before .before .before .before .before .before .before .before .before .before .before .before in
     let f = g .before .before .before .before in
     let r = f .before .before in
     let e = r .before .before .before .before .args in
     let w = c .before .before .put-record .ensures in
-    has-written _ (e .out .now) _ _ _ (patches-words (e .bytes .now) (e .line .now) (r .read .result) (r .read .ensures) _ _ (f .found .given .1) _ (gate-is g) _ _ (c .before .before .before .before .before .before .before .before .before .gate .ensures) (c .before .before .before .before .before .before .before .gate2 .ensures))
-    (has-room (e .bytes .now) (e .line .now) (r .read .result) (r .read .ensures) _ _ (f .found .given .1) _ _ (omega (arith, c .before .before .before .before .before .before .before .before .before .before .before .before .before .before .record-size .ensures, c .before .before .before .before .before .before .before .before .before .before .before .before .before .if1 .left))) (as-many (e .bytes .now) (e .line .now) (r .read .result) (r .read .ensures) _ _ (f .found .given .1) _ _ (w .0)) (w .1)
+    has-written _ (e .out .now) _ _ _ (patches-rows (e .bytes .now) (e .line .now) (r .read .result) (r .read .ensures) _ _ (f .found .given .1) _ (gate-is g) _ (c .before .before .before .before .before .before .before .before .before .gate .ensures))
+    (has-room (e .bytes .now) (e .line .now) (r .read .result) (r .read .ensures) _ _ (f .found .given .1) _ _ (omega (arith, c .before .before .before .before .before .before .before .before .before .before .before .before .before .record-size .ensures, c .before .before .before .before .before .before .before .before .before .before .before .before .if1 .left))) (as-many (e .bytes .now) (e .line .now) (r .read .result) (r .read .ensures) _ _ (f .found .given .1) _ _ (w .0)) (w .1)
 
 returns-3 : tie.Need-returns-3
 returns-3 c =
@@ -126,7 +118,6 @@ patch-spec =
     record-size-requires
     returns
     gate-requires
-    gate-requires-2
     add-end
     sub-put-record
     part-put-record-start

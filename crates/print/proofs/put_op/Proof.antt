@@ -1,5 +1,5 @@
 -- `print::put_op` meets its contract. Assumes nothing.
-use Rattle.lines.proofs.Putting.{put-nothing}
+use Rattle.print_lines.proofs.Putting.{put-nothing}
 use borrow.Author.Needs.{needs}
 use Rattle.print.proofs.put_op.Statement.{statement}
 use Rattle.print.proofs.put_op.Tie as tie

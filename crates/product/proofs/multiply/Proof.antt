@@ -5,7 +5,7 @@ use borrow.Author.Needs.{needs}
 use lib.ListN.{getD}
 use Rattle.pauli.specs.Letters.{power}
 use Rattle.pauli.specs.Texts.{letter-of}
-use Rattle.product.specs.Parts.{number}
+use Rattle.product.specs.parts.Table.{power-number}
 use Rattle.product.proofs.Laws.{products, letter-right, power-right, code-below}
 use Rattle.product.proofs.multiply.Statement.{statement}
 use Rattle.product.proofs.multiply.Tie as tie
@@ -43,7 +43,7 @@ array-read-t15 : tie.Need-array-read-t15
 array-read-t15 c = omega (arith, one c, two c)
 
 -- the power's digit, as the table has it
-digit : (c : tie.After-code2) → getD products (8 * c .before .code .result + 2 * c .code2 .result + 1) 0 ≡ 48 + number (power (letter-of (c .before .before .args .a)) (letter-of (c .before .before .args .b)))
+digit : (c : tie.After-code2) → getD products (8 * c .before .code .result + 2 * c .code2 .result + 1) 0 ≡ 48 + power-number (power (letter-of (c .before .before .args .a)) (letter-of (c .before .before .args .b)))
 digit c = rw (c .before .code .ensures, c .code2 .ensures) (power-right (letter-of (c .before .before .args .a)) (letter-of (c .before .before .args .b)))
 
 sub-t16 : tie.Need-sub-t16

@@ -3,7 +3,7 @@ use Prim.Native.Nat.{ℕ, _≤_, _-_}
 use mathlib.Core.Path.{_≡_, _∙_, ap}
 use native.Mathlib.Omega.{arith}
 use lib.ListN.{length}
-use Rattle.product.specs.Parts.{number}
+use Rattle.product.specs.parts.Table.{power-number}
 use Rattle.product.proofs.Laws.{number-below, phase-below, Summed, sum-none, sum-more}
 use Rattle.product.proofs.power_sum.Statement.{statement}
 use Rattle.product.proofs.power_sum.Tie as tie
@@ -65,7 +65,7 @@ returns c =
     let e = c .before .before .before .before .before .before .before .before .args in
     let l = c .before .loop in
     let k : l .k ≡ length (e .first .now) = omega arith in
-    l .inv .1 .is ∙ ap (λ (m : ℕ). number (phase-below (e .first .now) (e .second .now) (m - 1))) k
+    l .inv .1 .is ∙ ap (λ (m : ℕ). power-number (phase-below (e .first .now) (e .second .now) (m - 1))) k
 
 pub power-sum-spec : {M : Type 1} → statement M
 power-sum-spec =

@@ -4,7 +4,7 @@ use native.Mathlib.Omega.{arith}
 use lib.Dec.{eqb}
 use Rattle.answers.specs.declared.Refusal.the-variants.{RowLengths, BadByte, Anticommuting}
 use Rattle.answers.proofs.Answered.{refuses, has-no-room, has-written}
-use Rattle.product.specs.Parts.{letter-text}
+use Rattle.product.specs.parts.Table.{letter-text}
 use Rattle.product.proofs.Laws.{text-length}
 use Rattle.product.proofs.Answers.{differ-13, short-13, long-13, first-10, second-10, odd-12, even-product}
 use borrow.Author.Needs.{needs}

@@ -1,6 +1,6 @@
 -- `reading::refused` meets its contract. Assumes nothing.
 use Rattle.reading.proofs.Answers.{holds-one, start-one}
-use Rattle.loading.proofs.Stacks.{zeros}
+use Rattle.read_rows.proofs.Stacks.{zeros}
 use lib.ListN.{replicate}
 use mathlib.Core.Logic.{inl, inr}
 use mathlib.Core.Path.{refl}

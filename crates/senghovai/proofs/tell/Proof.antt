@@ -1,5 +1,5 @@
 use mathlib.Core.Path.{_≡_, sym, ap}
-use Rattle.answers.specs.Refusals.{told}
+use Rattle.answers.specs.Refusals.{told-written}
 use Rattle.senghovai.specs.Exports.{write-places}
 use Rattle.senghovai.proofs.Told.{is-told}
 use borrow.Author.Needs.{needs}
@@ -19,10 +19,10 @@ number-requires : tie.Need-number-requires
 number-requires c κs = search needs
 
 returns : tie.Need-returns
-returns c = is-told write-places _ _ (sym (ap told (c .before .before .w .given .1)))
+returns c = is-told write-places _ _ (sym (ap told-written (c .before .before .w .given .1)))
 
 returns-2 : tie.Need-returns-2
-returns-2 c = rw (c .number .ensures, c .before .before .place .ensures) (is-told write-places _ _ (sym (ap told (c .before .before .before .before .w2 .given .1))))
+returns-2 c = rw (c .number .ensures, c .before .before .place .ensures) (is-told write-places _ _ (sym (ap told-written (c .before .before .before .before .w2 .given .1))))
 
 pub tell-spec : {M : Type 1} → statement M
 tell-spec =

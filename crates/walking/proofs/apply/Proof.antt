@@ -1,6 +1,6 @@
 -- `walking::apply` meets its contract. Assumes nothing.
 use mathlib.Core.Path.{sym, _∙_}
-use Rattle.coded.proofs.Codes.{is-cx, is-cz, is-one}
+use Rattle.quick_lines.proofs.Codes.{is-cx, is-cz, is-one}
 use borrow.Author.Needs.{needs}
 use Rattle.walking.proofs.apply.Statement.{statement}
 use Rattle.walking.proofs.apply.Tie as tie

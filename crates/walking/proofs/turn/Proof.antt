@@ -2,9 +2,9 @@
 use mathlib.Core.Path.{_∙_, ap}
 use Prim.Native.Nat.{ℕ, _+_}
 use native.Mathlib.Omega.{arith}
-use Rattle.coded.specs.Coded.{op-in}
+use Rattle.quick_lines.specs.parts.Coded.{op-in}
 use Rattle.circuit.proofs.Walk.{valid-op}
-use Rattle.coded.proofs.Codes.{below-more, allowed-valid, is-measure}
+use Rattle.quick_lines.proofs.Codes.{below-more, allowed-valid, is-measure}
 use Rattle.walking.proofs.Views.{measured-step, applied-step}
 use borrow.Author.Needs.{needs}
 use Rattle.walking.proofs.turn.Statement.{statement}

@@ -7,7 +7,7 @@ use lib.ListN.{length}
 use Rattle.records.proofs.Lengths.{length-row-text}
 use Rattle.packing.specs.View.{row-at}
 use Rattle.pauli.specs.Texts.{row-text}
-use Rattle.writing.specs.Placed.{placed, group-text}
+use Rattle.writing.specs.parts.Placed.{placed, group-text}
 use Rattle.writing.proofs.Placing.{placed-none, then-placed}
 use Rattle.writing.proofs.Texts.{group-row, group-text-none, group-text-more, length-group-text, row-begins, row-ends}
 use borrow.Author.Needs.{needs}

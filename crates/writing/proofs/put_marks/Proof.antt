@@ -4,7 +4,7 @@ use native.Mathlib.Numerals.{add-one}
 use native.Mathlib.Omega.{arith}
 use lib.ListN.{length, take, length-set}
 use lib.Seq.{length-take-le, take-suc, take-all}
-use Rattle.writing.specs.Placed.{placed}
+use Rattle.writing.specs.parts.Placed.{placed}
 use Rattle.writing.proofs.Placing.{placed-none, then-byte}
 use borrow.Author.Needs.{needs}
 use Rattle.writing.proofs.put_marks.Statement.{statement}

@@ -3,7 +3,7 @@ use mathlib.Core.Path.{_≡_, refl, sym, _∙_, ap}
 use Prim.Native.Nat.{_+_, _-_, _≤_}
 use native.Mathlib.Omega.{arith}
 use lib.ListN.{length, set, length-set}
-use Rattle.writing.specs.Placed.{placed}
+use Rattle.writing.specs.parts.Placed.{placed}
 use Rattle.writing.proofs.Texts.{row-letters, row-letters-none, row-letters-more, length-row-letters, row-placed}
 use Rattle.writing.proofs.Placing.{placed-none, then-byte}
 use borrow.Author.Needs.{needs}

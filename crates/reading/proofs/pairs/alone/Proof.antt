@@ -1,6 +1,6 @@
 -- `reading::pairs::alone` meets its contract: the word tells of the columns passed. Assumes nothing.
 use Rattle.reading.proofs.Pairing.{passed-none, passed-more}
-use Rattle.reading.specs.Parts.{Against}
+use Rattle.reading.specs.parts.Pairs.{Against}
 use lib.ListN.{getD}
 use lib.Bits.{and-le-r}
 use native.Mathlib.Omega.{arith}

@@ -1,0 +1,2 @@
+pub mod LowestRow
+pub mod Gated

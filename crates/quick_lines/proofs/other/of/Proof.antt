@@ -1,0 +1,92 @@
+-- `circuit::other::of` meets its contract. Assumes nothing.
+use mathlib.Core.Bool.{true, _&&_}
+use mathlib.Core.Path.{_≡_, _∙_}
+use Prim.Native.Nat.{ℕ, _<_}
+use lib.Dec.{ltb}
+use native.Mathlib.Omega.{arith}
+use borrow.Author.Tests.{ltb-true}
+use Rattle.circuit.proofs.Walk.{and-left, and-right}
+use borrow.Author.Needs.{needs}
+use Rattle.quick_lines.proofs.other.of.Statement.{statement}
+use Rattle.quick_lines.proofs.other.of.Tie as tie
+
+byte : {a : ℕ} → ltb a 64 ≡ true → a < 256
+byte {a} e = omega (arith, ltb-true a 64 e)
+
+bytes : (a b : ℕ) → (ltb a 64 && ltb b 64) ≡ true → (a < 256) × (b < 256)
+bytes a b e = (byte (and-left (ltb a 64) (ltb b 64) e), byte (and-right (ltb a 64) (ltb b 64) e))
+
+enum-known-op : tie.Need-enum-known-op
+enum-known-op c = search needs
+
+enum-known-gate : tie.Need-enum-known-gate
+enum-known-gate c = search needs
+
+letter-requires : tie.Need-letter-requires
+letter-requires c κs = search needs
+
+pack-requires : tie.Need-pack-requires
+pack-requires c κs =
+    let p = rw (c .before .before .gate .given .1) at (rw (c .before .before .before .before .before .op .given .1) at (c .before .before .before .before .before .before .before .pre .0)) in
+    (c .letter .ensures .0, byte p, omega arith, c .before .before .before .before .before .before .before .pre .1, c .before .before .before .before .before .before .before .pre .2)
+
+enum-known-gate-2 : tie.Need-enum-known-gate-2
+enum-known-gate-2 c = search needs
+
+enum-told : tie.Need-enum-told
+enum-told c = search needs
+
+pack-requires-2 : tie.Need-pack-requires-2
+pack-requires-2 c κs =
+    let g = c .before .before .before .gate2 .given in
+    let p = rw (g .1) at (rw (c .before .before .before .before .before .before .op .given .1) at (c .before .before .before .before .before .before .before .before .pre .0)) in
+    (omega arith, bytes (g .0 .1 .0) (g .0 .1 .1 .0) p .0, bytes (g .0 .1 .0) (g .0 .1 .1 .0) p .1, c .before .before .before .before .before .before .before .before .pre .1, c .before .before .before .before .before .before .before .before .pre .2)
+
+enum-told-2 : tie.Need-enum-told-2
+enum-told-2 c = search needs
+
+pack-requires-3 : tie.Need-pack-requires-3
+pack-requires-3 c κs =
+    let g = c .before .before .before .gate2 .given in
+    let p = rw (g .1) at (rw (c .before .before .before .before .before .before .op .given .1) at (c .before .before .before .before .before .before .before .before .pre .0)) in
+    (omega arith, bytes (g .0 .1 .0) (g .0 .1 .1 .0) p .0, bytes (g .0 .1 .0) (g .0 .1 .1 .0) p .1, c .before .before .before .before .before .before .before .before .pre .1, c .before .before .before .before .before .before .before .before .pre .2)
+
+enum-known-op-2 : tie.Need-enum-known-op-2
+enum-known-op-2 c = search needs
+
+pack-requires-4 : tie.Need-pack-requires-4
+pack-requires-4 c κs =
+    let p = rw (c .before .op2 .given .1) at (c .before .before .before .pre .0) in
+    (omega arith, byte p, omega arith, c .before .before .before .pre .1, c .before .before .before .pre .2)
+
+returns : tie.Need-returns
+returns c = (c .pack .ensures .0, rw (c .before .before .before .before .before .before .op .given .1, c .before .before .before .gate .given .1) (c .pack .ensures .1 ∙ c .before .letter .ensures .1 _ _), c .pack .ensures .2)
+
+returns-2 : tie.Need-returns-2
+returns-2 c = (c .pack2 .ensures .0, rw (c .before .before .before .before .before .before .before .op .given .1, c .before .before .before .before .gate2 .given .1, c .before .enum-told .given .1) (c .pack2 .ensures .1), c .pack2 .ensures .2)
+
+returns-3 : tie.Need-returns-3
+returns-3 c = (c .pack3 .ensures .0, rw (c .before .before .before .before .before .before .before .op .given .1, c .before .before .before .before .gate2 .given .1, c .before .enum-told2 .given .1) (c .pack3 .ensures .1), c .pack3 .ensures .2)
+
+returns-4 : tie.Need-returns-4
+returns-4 c = (c .pack4 .ensures .0, rw (c .before .before .op2 .given .1) (c .pack4 .ensures .1), c .pack4 .ensures .2)
+
+pub of-spec : {M : Type 1} → statement M
+of-spec =
+    tie.close
+    (tie.spec
+    enum-known-op
+    enum-known-gate
+    letter-requires
+    pack-requires
+    enum-known-gate-2
+    enum-told
+    pack-requires-2
+    enum-told-2
+    pack-requires-3
+    enum-known-op-2
+    pack-requires-4
+    returns
+    returns-2
+    returns-3
+    returns-4)
