@@ -39,6 +39,10 @@ pub fn complain(text: &[u8]) {
     io::write_all(STDERR_FILENO, text);
 }
 
+fn complain_of_name() {
+    complain(b"a file's name is missing or too long: ./senghovai prints the words to give\n");
+}
+
 // One line on standard error: what could not be done, to which file, and why.
 fn cannot(what: &[u8], name: &[u8]) {
     io::write_all(STDERR_FILENO, what);
@@ -66,7 +70,7 @@ pub fn open_word(i: usize) -> i32 {
     let mut name = io::buffer();
     let n = os::arg(i, &mut name);
     if os::errno() != 0 {
-        complain(b"a file's name is missing or too long: ./senghovai prints the words to give\n");
+        complain_of_name();
         return -1;
     }
     open_named(&name[..n])
@@ -161,11 +165,14 @@ pub fn append(i: usize, bytes: &[u8]) -> bool {
     put_back(fd, &name[..n], bytes)
 }
 
-// Puts `.new0` behind the first n bytes, and answers how many there are with it; without room for it, none.
+// Puts `.new0` behind a name of n bytes, and answers how many there are with it; without a name or room for it, none.
 fn marked(name: &mut [u8], n: usize) -> usize
     ensures { λ r. ⌜ Counts r (now (name .exit)) ⌝ }
 {
     let mark = b".new0";
+    if n == 0 {
+        return 0;
+    }
     if name.len() < 5 {
         return 0;
     }
@@ -218,11 +225,23 @@ fn put_all(fd: i32, name: &[u8], bytes: &[u8]) -> bool {
     is_written
 }
 
+// Says why no file could be made beside the one named.
+fn say_not_made(name: &[u8]) {
+    if os::errno() == libc::EEXIST {
+        cannot(
+            b"cannot write, remove what broken runs left, named .new0 to .new9: ",
+            name,
+        );
+    } else {
+        cannot(b"cannot write, name a file that can be written: ", name);
+    }
+}
+
 // Writes the bytes to a new file beside the one named, and gives it its name; where that fails, the new one is removed.
 fn replace(name: &[u8], beside: &mut [u8], bytes: &[u8]) -> bool {
     let fd = create_free(beside);
     if fd < 0 {
-        cannot(b"cannot write, name a file that can be written: ", name);
+        say_not_made(name);
         return false;
     }
     if !put_all(fd, name, bytes) {
@@ -247,5 +266,9 @@ pub fn save(i: usize, bytes: &[u8]) -> bool {
     let mut beside = io::buffer();
     let m = os::arg(i, &mut beside);
     let size = marked(&mut beside, m);
+    if size == 0 {
+        complain_of_name();
+        return false;
+    }
     replace(&name[..n], &mut beside[..size], bytes)
 }

@@ -16,11 +16,14 @@ abbrev μ-loop : tie.MeasureT-loop
 returns : tie.Need-returns Inv-loop μ-loop
 returns c = search needs
 
-sub-if2 : tie.Need-sub-if2 Inv-loop μ-loop
-sub-if2 c = search needs
-
 returns-2 : tie.Need-returns-2 Inv-loop μ-loop
 returns-2 c = search needs
+
+sub-if3 : tie.Need-sub-if3 Inv-loop μ-loop
+sub-if3 c = search needs
+
+returns-3 : tie.Need-returns-3 Inv-loop μ-loop
+returns-3 c = search needs
 
 loop-holds : tie.Need-loop-holds Inv-loop μ-loop
 loop-holds c = search needs
@@ -49,8 +52,8 @@ add-result c = search needs
 same-length : tie.Need-same-length Inv-loop μ-loop
 same-length c = search needs
 
-returns-3 : tie.Need-returns-3 Inv-loop μ-loop
-returns-3 c = counts _ _ (search needs)
+returns-4 : tie.Need-returns-4 Inv-loop μ-loop
+returns-4 c = counts _ _ (search needs)
 
 pub marked-spec : {M : Type 1} → statement M
 marked-spec =
@@ -59,8 +62,9 @@ marked-spec =
     Inv-loop
     μ-loop
     returns
-    sub-if2
     returns-2
+    sub-if3
+    returns-3
     loop-holds
     element-copy-out-name
     add-name
@@ -70,4 +74,4 @@ marked-spec =
     loop-again
     add-result
     same-length
-    returns-3)
+    returns-4)
