@@ -24,7 +24,7 @@ use Rattle.run.proofs.Sheets.{may-size}
 use Rattle.print_lines.specs.Line.{refusal-line}
 use Rattle.print.specs.declared.Shape.the-variants as shape
 use Rattle.print.specs.Printed.{run-lines, or-refusal, printed}
-use Rattle.print.specs.parts.Sheets.{sheet-lines, Ready, Answered}
+use Rattle.print.specs.parts.Sheets.{sheet-lines, Ready, Shown}
 use Rattle.print.proofs.Sheets.{sheet-is}
 
 -- a run is refused by 7 alone
@@ -46,7 +46,7 @@ run-seven n line (op ∷ ops) e m p q = go (step n line op e) refl q (λ s. run-
     go (refused m′ p′) u h more = let w : m′ ≡ 7 = step-seven n line op e m′ p′ u in cc
 
 -- the text is refused
-pub prints-refusal : (text coins : List ℕ) (number place : ℕ) (sheet : List ℕ) → meaning text ≡ refused number place → Answered text coins (shape.Refused number place) sheet
+pub prints-refusal : (text coins : List ℕ) (number place : ℕ) (sheet : List ℕ) → meaning text ≡ refused number place → Shown text coins (shape.Refused number place) sheet
 unfolding printed
 prints-refusal text coins number place sheet e = record {
   ready = tt;
@@ -110,7 +110,7 @@ module _ (text coins old : List ℕ) (n count measured body : ℕ) (a : Accepts 
     told : (v : Verdict State) → ended ≡ v → answer ≡ numbers (then v (λ e. accepted (sheet (a .circuit .qubits) coins e)))
     told v q = w .answers ∙ ap numbers (run-is v q)
 
-    pub ran : length new ≡ length old → getD answer 0 0 ≡ 0 → Answered text coins (shape.Ran n body) new
+    pub ran : length new ≡ length old → getD answer 0 0 ≡ 0 → Shown text coins (shape.Ran n body) new
     ran k z = record { ready = ready-for new k; lines = go ended refl }
       where
         go : (v : Verdict State) → ended ≡ v → printed text coins ≡ sheet-lines (lines-of n body text) n new
@@ -118,7 +118,7 @@ module _ (text coins old : List ℕ) (n count measured body : ℕ) (a : Accepts 
         go (refused m p) q =
             absurd (omega (arith, z, ap (λ (l : List ℕ). getD l 0 0) (told (refused m p) q), run-seven (a .circuit .qubits) 2 (a .circuit .ops) (begin (a .circuit .qubits) coins) m p q))
 
-    pub refused-as : (getD answer 0 0 ≡ 0 → ⊥) → Answered text coins (shape.Refused (getD answer 0 0) (getD answer 1 0)) new
+    pub refused-as : (getD answer 0 0 ≡ 0 → ⊥) → Shown text coins (shape.Refused (getD answer 0 0) (getD answer 1 0)) new
     refused-as z = record { ready = tt; lines = go ended refl }
       where
         go : (v : Verdict State) → ended ≡ v → printed text coins ≡ refusal-line (getD answer 0 0) (getD answer 1 0)

@@ -15,6 +15,7 @@ use Rattle.clifford.specs.Run.{State, run, begin}
 use Rattle.circuit.specs.Lines.{end-byte}
 use Rattle.circuit.specs.Text.{Circuit, meaning}
 use Rattle.records.specs.Record.{joined}
+use Rattle.run.specs.Run.{Runs}
 use Rattle.print_lines.specs.Line.{outcome-line, refusal-line}
 
 -- the operations in order, the first of them on this line: each measurement takes the next outcome
@@ -43,6 +44,11 @@ or-refusal (refused number place) = refusal-line number place
 -- 1 to 6 as the check gives them, then 7; there is no record buffer, so 8 does not occur
 unfoldable pub printed : List ℕ → List ℕ → List ℕ
 printed text coins = or-refusal (then (meaning text) (λ c. then (run (c .qubits) 2 (c .ops) (begin (c .qubits) coins)) (λ e. accepted (run-lines c e))))
+
+-- the run's own promise, but for the rest of the coins, which is not handed back
+pub record Recorded (text coins old answer new : List ℕ) : Type 0 where
+  pub rest : List ℕ
+  pub runs : Runs text coins old answer rest new
 
 -- what stands before the first end byte, which is left off
 abbrev pub first-line : List ℕ → List ℕ

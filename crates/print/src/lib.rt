@@ -8,7 +8,7 @@ ghost use Rattle.answers.specs.Refusals.{Writes};
 ghost use Rattle.circuit.specs.Text.{measures};
 ghost use Rattle.circuit_writer.specs.parts.Storing.{Stores};
 ghost use Rattle.walking.specs.parts.Walk.{lines-of};
-ghost use Rattle.print.specs.Printed.{printed, too-long, shot-printed};
+ghost use Rattle.print.specs.Printed.{printed, Recorded, too-long, shot-printed};
 ghost use Rattle.print.specs.parts.Sheets.{outcome-of, op-text, sheet-lines, Ready, ReadyAs, shape-lines, Answered, Split};
 use answers::Refusal;
 use answers::Written;
@@ -79,10 +79,11 @@ fn put_shape(out: &mut [u8], text: &[u8], shape: Shape, sheet: &[u8]) -> usize
     }
 }
 
-fn answered(text: &[u8], coins: &[u8], sheet: &mut [u8]) -> Shape
+fn answered(text: &[u8], coins: &[u8], sheet: &mut [u8], answer: &mut [u64; 6]) -> Shape
     requires { ⌜ 12428 ≤ length (now sheet) ⌝ }
-    ensures { λ r. ⌜ Answered (now (text .entry)) (now (coins .entry)) r (now (sheet .exit)) ⌝ }
+    ensures { λ r. ⌜ Answered (now (text .entry)) (now (coins .entry)) (now (sheet .entry)) (now (answer .exit)) r (now (sheet .exit)) ⌝ }
 {
+    run::run(text, coins, sheet, answer);
     match checking::scan(text) {
         Scanned::Circuit {
             qubits,
@@ -90,8 +91,6 @@ fn answered(text: &[u8], coins: &[u8], sheet: &mut [u8]) -> Shape
             measured: _,
             body,
         } => {
-            let mut answer = [0u64; 6];
-            run::run(text, coins, sheet, &mut answer);
             if answer[0] == 0 {
                 return Shape::Ran { qubits, body };
             }
@@ -101,17 +100,32 @@ fn answered(text: &[u8], coins: &[u8], sheet: &mut [u8]) -> Shape
     }
 }
 
+// One run for both: its record goes to the lent sheet and its numbers to the answer, as `run::run` puts them, and what it prints goes to the buffer.
+pub fn run_and_print(
+    circuit: &[u8],
+    coins: &[u8],
+    sheet: &mut [u8; 12428],
+    answer: &mut [u64; 6],
+    out: &mut [u8],
+) -> Written
+    ensures recorded { λ r. ⌜ Recorded (now (circuit .entry)) (now (coins .entry)) (now (sheet .entry)) (now (answer .exit)) (now (sheet .exit)) ⌝ }
+    ensures printed { λ r. ⌜ Writes (accepted (printed (now (circuit .entry)) (now (coins .entry)))) (now (out .entry)) r (now (out .exit)) ⌝ }
+{
+    let shape = answered(circuit, coins, sheet, answer);
+    let mut nowhere = [0u8; 1];
+    let size = put_shape(&mut nowhere, circuit, shape, sheet);
+    if out.len() < size {
+        return Written::Refused(Refusal::NoRoom);
+    }
+    Written::Bytes(put_shape(out, circuit, shape, sheet))
+}
+
 pub fn print(circuit: &[u8], coins: &[u8], out: &mut [u8]) -> Written
     ensures { λ r. ⌜ Writes (accepted (printed (now (circuit .entry)) (now (coins .entry)))) (now (out .entry)) r (now (out .exit)) ⌝ }
 {
     let mut sheet = [0u8; 12428];
-    let shape = answered(circuit, coins, &mut sheet);
-    let mut nowhere = [0u8; 1];
-    let size = put_shape(&mut nowhere, circuit, shape, &sheet);
-    if out.len() < size {
-        return Written::Refused(Refusal::NoRoom);
-    }
-    Written::Bytes(put_shape(out, circuit, shape, &sheet))
+    let mut answer = [0u64; 6];
+    run_and_print(circuit, coins, &mut sheet, &mut answer, out)
 }
 
 // Where the first line ends, or the end.

@@ -2,29 +2,29 @@
 // the rows; or prints the refusal and changes no file. A crash in mid-append leaves at worst a torn tail behind the records that were there.
 use answers::Written;
 
-// The longest printed text has 78,080 bytes.
-fn print(circuit: &[u8], coins: &[u8]) {
+// Appends the record, which the sheet's first bytes are, to the archive.
+fn keep(sheet: &[u8; 12428], size: usize) -> bool {
+    let bytes: &[u8] = sheet;
+    let n = tool::within(size, bytes);
+    tool::append(3, &bytes[..n])
+}
+
+// The record is appended before anything is printed, so that what is printed is in the archive. A refused run has no record, and its refusal is printed.
+fn run(circuit: &[u8], coins: &[u8]) {
+    let mut sheet = tool::tail_buffer();
+    let mut answer = [0u64; 6];
     let mut out = tool::print_buffer();
-    match print::print(circuit, coins, &mut out) {
+    match print::run_and_print(circuit, coins, &mut sheet, &mut answer, &mut out) {
         Written::Bytes(size) => {
+            if answer[0] == 0 {
+                if !keep(&sheet, answer[2] as usize) {
+                    return;
+                }
+            }
             let n = tool::within(size, &out);
             tool::say(&out[..n]);
         }
         Written::Refused(r) => tool::refuse(r),
-    }
-}
-
-fn run(circuit: &[u8], coins: &[u8]) {
-    let mut sheet = tool::tail_buffer();
-    let mut answer = [0u64; 6];
-    library::run(circuit, coins, &mut sheet, &mut answer);
-    if answer[0] != 0 {
-        tool::say_refused(answer[0], answer[1]);
-        return;
-    }
-    let n = tool::within(answer[2] as usize, &sheet);
-    if tool::append(3, &sheet[..n]) {
-        print(circuit, coins);
     }
 }
 

@@ -15,7 +15,7 @@ use Rattle.print_lines.specs.Line.{outcome-line, refusal-line}
 use Rattle.print_lines.specs.Rows.{parts-closed}
 use Rattle.print.specs.declared.Shape.{Shape}
 use Rattle.print.specs.declared.Shape.the-variants as shape
-use Rattle.print.specs.Printed.{outcome-lines, printed, first-line, behind-first-line}
+use Rattle.print.specs.Printed.{outcome-lines, printed, Recorded, first-line, behind-first-line}
 
 -- the outcome of a character of the record
 abbrev pub outcome-of : ℕ → Outcome
@@ -45,9 +45,14 @@ abbrev pub shape-lines : List ℕ → Shape → List ℕ → List ℕ
 shape-lines text (shape.Ran n body) sheet = sheet-lines (lines-of n body text) n sheet
 shape-lines text (shape.Refused number place) sheet = refusal-line number place
 
-pub record Answered (text coins : List ℕ) (s : Shape) (sheet : List ℕ) : Type 0 where
+-- what is printed stands in the record, or is the refusal
+pub record Shown (text coins : List ℕ) (s : Shape) (sheet : List ℕ) : Type 0 where
   pub ready : ReadyAs text s sheet
   pub lines : printed text coins ≡ shape-lines text s sheet
+
+pub record Answered (text coins old answer : List ℕ) (s : Shape) (sheet : List ℕ) : Type 0 where
+  pub recorded : Recorded text coins old answer sheet
+  pub shown : Shown text coins s sheet
 
 -- the first line of an input ends here
 pub record Split (input : List ℕ) (at : ℕ) : Type 0 where
