@@ -1,11 +1,11 @@
 -- With room for the longest record a copy is never refused with 8. Assumes nothing.
-use mathlib.Core.Path.{_≡_, sym, _∙_, ap}
+use mathlib.Core.Path.{_≡_, ap}
 use mathlib.Core.List.{List}
 use Prim.Native.Nat.{ℕ, _≤_}
 use native.Mathlib.Omega.{arith}
 use lib.ListN.{length}
 use Rattle.answers.specs.Verdict.{Verdict, accepted, refused, then, within}
-use Rattle.answers.proofs.Numbered.{Refused-by, by-then, by-more, room-enough}
+use Rattle.answers.proofs.Numbered.{by-then, by-more, room-enough}
 use Rattle.records.specs.Record.{longest-record}
 use Rattle.records.specs.Reading.{Read, read-of}
 use Rattle.records.proofs.Lengths.{length-record, record-within}

@@ -3,7 +3,7 @@ use mathlib.Core.Bool.{Bool, true, false, not, _&&_}
 use mathlib.Core.List.{List}
 use Prim.Native.Nat.{ℕ, zero, suc}
 use lib.Dec.{eqb}
-use Rattle.answers.specs.Verdict.{Verdict, accepted, refused}
+use Rattle.answers.specs.Verdict.{accepted, refused}
 use Rattle.answers.specs.Refusals.{numberOf, placeOf}
 use Rattle.pauli.specs.Letters.{Letter, _⊕_, x, z}
 use Rattle.pauli.specs.Rows.{Row}

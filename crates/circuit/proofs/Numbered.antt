@@ -4,7 +4,7 @@ use mathlib.Core.List.{List, [], _∷_}
 use Prim.Native.Nat.{ℕ, zero, suc, _≤_}
 use native.Mathlib.Omega.{arith}
 use lib.Dec.{leb}
-use Rattle.answers.specs.Verdict.{Verdict, accepted, refused, then, unless}
+use Rattle.answers.specs.Verdict.{accepted, refused, then, unless}
 use Rattle.answers.proofs.Numbered.{Refused-by, by-then, by-unless}
 use Rattle.clifford.specs.Limits.{most-operations, most-qubits}
 use Rattle.clifford.specs.declared.Op.{Op}

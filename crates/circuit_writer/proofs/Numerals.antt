@@ -7,7 +7,6 @@ use Prim.Native.Nat.{ℕ, suc, _+_, _*_, _/_, _%_, _≤_, _<_}
 use native.Mathlib.Omega.{arith}
 use borrow.Author.Tests.{eqb-true, eqb-false}
 use lib.Dec.{eqb}
-use Rattle.clifford.specs.declared.Gate.the-variants.{One as one}
 use Rattle.circuit.specs.Lines.{found, malformed, digits, number}
 use Rattle.circuit.proofs.Digits.{is-or-not, no-number, digits-more, number-starts}
 use Rattle.circuit_writer.specs.Writing.{short-decimal}

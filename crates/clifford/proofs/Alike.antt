@@ -15,9 +15,9 @@ use Rattle.clifford.specs.declared.Gate.{Gate}
 use Rattle.clifford.specs.declared.Op.{Op}
 use Rattle.clifford.specs.declared.Op.the-variants.{Gate as apply, Measure as measure}
 use Rattle.clifford.specs.Gates.{turns, new, gate}
-use Rattle.clifford.specs.Tableau.{Rows, gated}
+use Rattle.clifford.specs.Tableau.{Rows}
 use Rattle.answers.specs.First.{lowest}
-use Rattle.clifford.specs.Measurement.{has-x, random-row, cleared, collapsed, gathered, fixed-value, Outcome}
+use Rattle.clifford.specs.Measurement.{random-row, cleared, collapsed, gathered, fixed-value, Outcome}
 use Rattle.clifford.specs.Run.{State, coin, settle, step, run}
 
 -- four rows of the same letters, the last of whose signs is the sum of the others'

@@ -1,14 +1,13 @@
 -- Products of chosen rows: what anticommutes with them, and that no product of a properly paired tableau's rows but the empty one is all I. Assumes nothing.
 use mathlib.Core.Path.{_≡_, refl, sym, _∙_, ap, ap₂}
 use mathlib.Core.Bool.{Bool, true, false, _&&_, cond}
-use mathlib.Core.List.{List, [], _∷_}
+use mathlib.Core.List.{[], _∷_}
 use Prim.Native.Nat.{ℕ, zero, suc, _<_}
 use lib.Dec.{eqb}
 use borrow.Author.Tests.{eqb-true}
-use Rattle.pauli.specs.Letters.{Letter, I, _⊕_, _·_}
-use Rattle.pauli.specs.Sums.{sum}
+use Rattle.pauli.specs.Letters.{I, _⊕_, _·_}
 use Rattle.pauli.specs.Rows.{Letters, anticommute, mul, odd-number}
-use Rattle.pauli.proofs.Cases.{tested, bit, ltr}
+use Rattle.pauli.proofs.Cases.{tested, bit}
 use Rattle.pauli.proofs.Sums.{sum-cong, sum-zero, sum-one, eqb-swap}
 use Rattle.pauli.proofs.LetterLaws.{xor-adds}
 use Rattle.pauli.proofs.RowLaws.{anticommute-mul, anticommute-swap}

@@ -1,9 +1,9 @@
 -- More than k vectors of k bits are dependent. Assumes nothing.
-use mathlib.Core.Path.{_≡_, refl, sym, _∙_, ap, ap₂}
+use mathlib.Core.Path.{_≡_, refl, sym, _∙_, ap}
 use mathlib.Core.Bool.{Bool, true, false, _&&_, cond, true≢false}
-use mathlib.Core.List.{List, [], _∷_}
+use mathlib.Core.List.{[], _∷_}
 use mathlib.Core.Option.{Option, none, some}
-use Prim.Native.Nat.{ℕ, zero, suc, _+_, _<_, _≤_}
+use Prim.Native.Nat.{ℕ, zero, suc, _+_, _<_}
 use native.Mathlib.Omega.{arith}
 use lib.Dec.{eqb}
 use borrow.Author.Tests.{eqb-true, eqb-false, eq-eqb, ne-eqb}
@@ -14,7 +14,7 @@ use Rattle.pauli.proofs.Cases.{tested, bit}
 use Rattle.pauli.proofs.Sums.{Adds, sum-cong, sum-plus, sum-zero, sum-at, sum-map}
 use Rattle.pauli.proofs.LetterLaws.{xor-adds}
 use Rattle.answers.specs.First.{lowest}
-use Rattle.answers.proofs.First.{Lowest, Answer, lowest-is}
+use Rattle.answers.proofs.First.{Answer, lowest-is}
 
 nat-adds : Adds 0 _+_
 nat-adds = record { left = λ a. omega arith; right = λ a. omega arith; medial = λ a b c d. omega arith }

@@ -5,9 +5,9 @@ use mathlib.Core.List.{[], _∷_}
 use mathlib.Core.Option.{Option, none, some}
 use Prim.Native.Nat.{ℕ, zero, suc, _<_, _≤_}
 use native.Mathlib.Omega.{arith}
-use Rattle.pauli.specs.Letters.{I, Z, _⊕_, x, _·_, Power, i0, _⊞_, sign, odd}
+use Rattle.pauli.specs.Letters.{I, Z, _⊕_, x, _·_, Power, _⊞_, sign, odd}
 use Rattle.pauli.specs.Sums.{sum}
-use Rattle.pauli.specs.Rows.{Letters, anticommute, total, phased, product, minus-sign}
+use Rattle.pauli.specs.Rows.{Letters, anticommute, total, phased, product}
 use Rattle.pauli.proofs.Cases.{tested, bit, pow}
 use Rattle.pauli.proofs.Sums.{sum-cong, sum-zero}
 use Rattle.pauli.proofs.LetterLaws.{xor-adds, letter-adds, even-sign}

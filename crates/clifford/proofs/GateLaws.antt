@@ -1,11 +1,11 @@
 -- Every gate keeps the commutation of every two rows, and respects row products, signs and powers of i included. Assumes nothing.
-use mathlib.Core.Path.{_≡_, refl, sym, _∙_, ap, ap₂}
-use mathlib.Core.Bool.{Bool, true, false, not, _&&_, cond}
+use mathlib.Core.Path.{_≡_, refl, sym, _∙_, ap}
+use mathlib.Core.Bool.{Bool, true, false, cond}
 use mathlib.Core.List.{List, [], _∷_}
-use Prim.Native.Nat.{ℕ, zero, suc, _<_}
+use Prim.Native.Nat.{ℕ}
 use lib.Dec.{eqb}
-use borrow.Author.Tests.{eqb-true, eqb-false, eq-eqb, ne-eqb}
-use Rattle.pauli.specs.Letters.{Letter, Power, i0, i1, i2, i3, _⊕_, x, z, letter, _⊞_, sign, odd, _·_, power}
+use borrow.Author.Tests.{eqb-true}
+use Rattle.pauli.specs.Letters.{Letter, Power, i0, i1, i2, i3, _⊕_, _⊞_, sign, odd, _·_, power}
 use Rattle.pauli.specs.Rows.{Letters, anticommute, total, mul, Phased, product, Row, phased}
 use Rattle.pauli.proofs.Cases.{Kind, tested, bit, ltr, pow}
 use Rattle.pauli.proofs.Sums.{sum-at, sum-at₂}

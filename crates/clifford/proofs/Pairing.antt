@@ -1,18 +1,18 @@
 -- Gates and both kinds of measurement keep a tableau properly paired. Assumes nothing.
-use mathlib.Core.Path.{_≡_, refl, sym, _∙_, ap, ap₂}
-use mathlib.Core.Bool.{Bool, true, false, not, _&&_, cond}
-use mathlib.Core.List.{List, [], _∷_}
-use Prim.Native.Nat.{ℕ, zero, suc, _<_}
+use mathlib.Core.Path.{_≡_, refl, sym, _∙_}
+use mathlib.Core.Bool.{Bool, true, false, _&&_, cond}
+use mathlib.Core.List.{[], _∷_}
+use Prim.Native.Nat.{ℕ, _<_}
 use lib.Dec.{eqb}
 use borrow.Author.Tests.{eqb-true, eqb-false, eq-eqb, ne-eqb}
-use Rattle.pauli.specs.Letters.{Letter, I, Z, _⊕_, x, z, differ}
-use Rattle.pauli.specs.Rows.{Letters, anticommute, mul, Row, times-row}
+use Rattle.pauli.specs.Letters.{Letter, I, Z, _⊕_, x, differ}
+use Rattle.pauli.specs.Rows.{Letters, anticommute, Row, times-row}
 use Rattle.pauli.proofs.Cases.{tested, bit, ltr}
-use Rattle.pauli.proofs.Sums.{sum-cong, sum-zero, sum-one}
+use Rattle.pauli.proofs.Sums.{sum-cong, sum-one}
 use Rattle.pauli.proofs.LetterLaws.{xor-adds}
 use Rattle.pauli.proofs.RowLaws.{anticommute-self, anticommute-swap, anticommute-mul}
 use Rattle.clifford.specs.declared.Gate.{Gate}
-use Rattle.clifford.specs.Gates.{Fits, gate}
+use Rattle.clifford.specs.Gates.{Fits}
 use Rattle.clifford.specs.Tableau.{Rows, Paired, gated, alone}
 use Rattle.clifford.specs.Measurement.{cleared, collapsed}
 use Rattle.clifford.proofs.GateLaws.{anticommute-new}

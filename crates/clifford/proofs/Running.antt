@@ -1,25 +1,21 @@
 -- Rows stay properly paired through every operation of a run, and every multiplied row has the sign of a product of commuting rows. Assumes nothing.
-use mathlib.Core.Path.{_≡_, refl, sym, _∙_, ap, subst}
+use mathlib.Core.Path.{_≡_, refl, _∙_, ap}
 use mathlib.Core.Bool.{Bool, true, false, cond}
 use mathlib.Core.List.{List, [], _∷_, _++_}
 use mathlib.Core.Option.{Option, none, some}
-use Prim.Native.Nat.{ℕ, zero, suc, _<_}
+use Prim.Native.Nat.{ℕ, suc, _<_}
 use native.Mathlib.Omega.{arith}
-use lib.Dec.{eqb}
 use borrow.Author.Tests.{ne-eqb}
 use Rattle.answers.specs.Verdict.{Verdict, accepted, refused, then}
 use Rattle.pauli.specs.Rows.{Row, phased, product, anticommute, times-row}
 use Rattle.pauli.proofs.RowLaws.{times-phased}
-use Rattle.clifford.specs.declared.Gate.{Gate}
 use Rattle.clifford.specs.declared.Op.{Op}
 use Rattle.clifford.specs.declared.Op.the-variants.{Gate as apply, Measure as measure}
-use Rattle.clifford.specs.Tableau.{Rows, Paired, gated, start}
-use Rattle.answers.specs.First.{lowest}
+use Rattle.clifford.specs.Tableau.{Rows, Paired}
 use Rattle.clifford.specs.Measurement.{has-x, random-row, cleared, collapsed}
 use Rattle.clifford.specs.Run.{State, coin, settle, step, run, Valid, All-valid}
-use Rattle.answers.proofs.First.{Lowest, Answer, lowest-is}
+use Rattle.answers.proofs.First.{Answer, lowest-is}
 use Rattle.clifford.proofs.Pairing.{gate-paired, collapsed-paired}
-use Rattle.clifford.proofs.Start.{start-paired}
 
 -- a row that is multiplied commutes with row p, so its sign is that of the product with its power of i
 cleared-phased : (n a : ℕ) (p r : Row) → anticommute n (r .letters) (p .letters) ≡ false → phased (cleared n a p r) ≡ cond (has-x a r) (product n (phased r) (phased p)) (phased r)

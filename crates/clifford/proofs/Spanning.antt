@@ -1,17 +1,17 @@
 -- The rows of any properly paired tableau make every letter row: it is the product of the rows to whose partners it is against. Assumes nothing.
 use mathlib.Core.Path.{_≡_, refl, sym, _∙_, ap, ap₂}
 use mathlib.Core.Bool.{Bool, true, false, _&&_, cond, true≢false}
-use mathlib.Core.List.{List, [], _∷_}
-use Prim.Native.Nat.{ℕ, zero, suc, _+_, _-_, _<_, _≤_}
+use mathlib.Core.List.{[], _∷_}
+use Prim.Native.Nat.{ℕ, zero, suc, _+_, _-_, _<_}
 use native.Mathlib.Omega.{arith}
 use native.Mathlib.Nat.{add-suc, add-zero}
-use lib.Dec.{eqb, ltb}
-use borrow.Author.Tests.{ltb-true, ltb-false, lt-ltb, le-ltb, eq-eqb}
-use Rattle.pauli.specs.Letters.{Letter, I, _⊕_, x, z, letter, _·_, differ}
+use lib.Dec.{ltb}
+use borrow.Author.Tests.{ltb-true, ltb-false, lt-ltb, le-ltb}
+use Rattle.pauli.specs.Letters.{Letter, I, _⊕_, x, z, letter, _·_}
 use Rattle.pauli.specs.Sums.{sum}
 use Rattle.pauli.specs.Rows.{Letters, anticommute, mul, odd-number}
 use Rattle.pauli.proofs.Cases.{tested, bit, ltr}
-use Rattle.pauli.proofs.Sums.{Adds, sum-cong, sum-plus, sum-zero, eqb-swap}
+use Rattle.pauli.proofs.Sums.{sum-cong, sum-plus, sum-zero, eqb-swap}
 use Rattle.pauli.proofs.LetterLaws.{xor-adds}
 use Rattle.pauli.proofs.RowLaws.{anticommute-mul, anticommute-swap}
 use Rattle.clifford.specs.Tableau.{Rows, Paired}

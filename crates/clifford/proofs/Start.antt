@@ -1,12 +1,11 @@
 -- The start tableau is properly paired. Assumes nothing.
-use mathlib.Core.Path.{_≡_, sym, _∙_}
-use mathlib.Core.Bool.{Bool, true, false, cond}
+use mathlib.Core.Path.{_≡_, _∙_}
+use mathlib.Core.Bool.{Bool, false, cond}
 use mathlib.Core.List.{[], _∷_}
-use Prim.Native.Nat.{ℕ, _<_}
-use lib.Dec.{eqb, ltb}
+use Prim.Native.Nat.{ℕ}
+use lib.Dec.{eqb}
 use borrow.Author.Tests.{lt-ltb}
 use Rattle.pauli.specs.Letters.{I, X, Z, x, differ}
-use Rattle.pauli.specs.Rows.{anticommute}
 use Rattle.pauli.proofs.Cases.{tested, bit}
 use Rattle.pauli.proofs.Sums.{sum-cong, sum-zero, eqb-swap}
 use Rattle.pauli.proofs.LetterLaws.{xor-adds}

@@ -1,6 +1,6 @@
 -- The rows of a tableau, those it starts from, what a gate does to all of them, and when they are properly paired: document 01,
 -- "Rows and their products". Assumes nothing.
-use mathlib.Core.Bool.{Bool, true, false, cond}
+use mathlib.Core.Bool.{false, cond}
 use mathlib.Core.Path.{_≡_}
 use Prim.Native.Nat.{ℕ, _<_}
 use lib.Dec.{eqb, ltb}

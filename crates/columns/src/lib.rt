@@ -2,7 +2,7 @@
 // its z bit, bit i of word 128 its sign. A gate is then a handful of word operations on the columns of its qubits, for all rows at once.
 ghost use mathlib.Core.Bool.{cond};
 ghost use mathlib.Core.Path.{_≡_};
-ghost use Prim.Native.Nat.{ℕ, _<_, _≤_};
+ghost use Prim.Native.Nat.{_<_, _≤_};
 ghost use Rattle.clifford.specs.Gates.{Fits};
 ghost use Rattle.clifford.specs.parts.Named.{one-of};
 ghost use Rattle.answers.specs.First.{lowest};

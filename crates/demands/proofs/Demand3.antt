@@ -1,25 +1,26 @@
 -- Demand 3, of calls that keep the run's promise: two coin lists of equal length, and three with the list made by exclusive-or of them. Assumes nothing.
-use mathlib.Core.Path.{_≡_, refl, sym, _∙_, ap, ap₂, subst}
+use mathlib.Core.Path.{_≡_, refl, sym, _∙_, ap, ap₂}
 use mathlib.Core.Bool.{Bool, true, false, cond, true≢false}
-use mathlib.Core.List.{List, [], _∷_, _++_, map}
-use Prim.Native.Nat.{ℕ, _≤_, _<_}
-use native.Mathlib.Omega.{arith}
+use mathlib.Core.List.{List, [], _∷_, map}
+use Prim.Native.Nat.{ℕ, _≤_}
 use lib.Dec.{ltb}
 use lib.ListN.{length, getD, take, drop, length-map}
 use lib.Seq.{take-at, drop-at}
 use borrow.Author.Tests.{ltb-true, ltb-false}
 use Rattle.answers.specs.Verdict.{Verdict, accepted, refused, over}
 use Rattle.pauli.specs.Letters.{_⊕_}
-use Rattle.pauli.specs.Texts.{sign-byte}
+use Rattle.pauli.specs.Texts.{sign-byte, is-sign}
 use Rattle.clifford.specs.Measurement.{Outcome}
 use Rattle.clifford.specs.Run.{State}
 use Rattle.records.specs.Record.{mark-of, mark, outcome-of, record-of, record-length}
 use Rattle.records.proofs.Lengths.{length-record}
-use Rattle.records.proofs.Outcomes.{mark-back}
-use Rattle.run.specs.Run.{Sheet, run-of, numbers, rest-of, buffer-after, Runs}
+use Rattle.records.specs.Reading.{is-mark}
+use Rattle.records.proofs.Outcomes.{mark-fits, mark-back}
+use Rattle.records.proofs.RowTexts.{sign-fits}
+use Rattle.run.specs.Run.{Sheet, run-of, numbers, rest-of, buffer-after}
 use Rattle.demands.specs.Calls.{Call, number-told, size-told, measured-told, written}
-use Rattle.demands.specs.Alike.{sign-place, Records-alike, Leaves, nothing, two-records, xor3, is-minus, byte-of-three, Fourth}
-use Rattle.demands.proofs.Bytes.{one-length, Outcomes-at, Signs-at, Equal-at, Place-alike, place-alike}
+use Rattle.demands.specs.Alike.{sign-place, Same-kind, Records-alike, Leaves, nothing, two-records, xor3, is-minus, byte-of-three, Fourth}
+use Rattle.demands.proofs.Bytes.{one-length, Outcomes-at, Signs-at, Place-alike, place-alike}
 use Rattle.demands.proofs.Runs.{Sheets-alike, Runs-alike, refused-alike, accepted-alike, runs-alike, two-alike, three-alike}
 use Rattle.demands.proofs.Tally.{Accepted-call, accepted-call, written-is}
 
@@ -32,10 +33,15 @@ minus-back : (m : Bool) → is-minus (sign-byte m) ≡ m
 minus-back true = refl
 minus-back false = refl
 
--- the kinds of two outcomes
-same-kind : (a b c d : ℕ) → Outcomes-at a b c d → outcome-of b .random ≡ outcome-of a .random
-same-kind a b c d h =
-    ap (λ (o : Outcome). o .random) (told-outcome (h .of-b) b (h .b-is)) ∙ h .alike .second ∙ sym (ap (λ (o : Outcome). o .random) (told-outcome (h .of-a) a (h .a-is)))
+same-kind : (a b c d : ℕ) → Outcomes-at a b c d → Same-kind a b
+same-kind a b c d h = record {
+  first = ap is-mark (h .a-is) ∙ mark-fits (h .of-a .random) (h .of-a .value);
+  second = ap is-mark (h .b-is) ∙ mark-fits (h .of-b .random) (h .of-b .value);
+  kind = ap (λ (o : Outcome). o .random) (told-outcome (h .of-b) b (h .b-is)) ∙ h .alike .second ∙ sym (ap (λ (o : Outcome). o .random) (told-outcome (h .of-a) a (h .a-is)));
+}
+
+both-signs : (a b c d : ℕ) → Signs-at a b c d → (is-sign a ≡ true) × (is-sign b ≡ true)
+both-signs a b c d h = (ap is-sign (h .a-is) ∙ sign-fits (h .of-a), ap is-sign (h .b-is) ∙ sign-fits (h .of-b))
 
 fourth-outcome : (a b c d : ℕ) → Outcomes-at a b c d → d ≡ mark-of (outcome-of a .random) (outcome-of a .value ⊕ outcome-of b .value ⊕ outcome-of c .value)
 fourth-outcome a b c d h =
@@ -100,7 +106,8 @@ module _ (text : List ℕ) (a b c d : Sheet) (m : Sheets-alike text a b c d) whe
   sheets-alike : Records-alike n (a .tally .measured) (a .bytes) (b .bytes)
   sheets-alike = record {
     lengths = lengths-b;
-    kinds = λ k l. same-kind _ _ _ _ (places k .outcome l);
+    outcomes = λ k l. same-kind _ _ _ _ (places k .outcome l);
+    signs = λ k l e. both-signs _ _ _ _ (places k .sign l e);
     others = λ k l e. places k .other l e .second;
   }
 

@@ -18,7 +18,6 @@ use Rattle.clifford.proofs.Alike.{Row-alike, Rows-alike, Outcome-alike, All-ali
 use Rattle.words.proofs.BitLaws.{bit-low, bit-xor}
 use Rattle.circuit.specs.Text.{Circuit, meaning, count-measured}
 use Rattle.records.specs.Record.{record-length}
-use Rattle.tally.specs.declared.Tally.{Tally}
 use Rattle.tally.specs.Tally.{one-if, randoms, tally-of}
 use Rattle.run.specs.Run.{Sheet, sheet, run-circuit, run-of}
 use Rattle.demands.specs.Alike.{xor3}

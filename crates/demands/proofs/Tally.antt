@@ -1,8 +1,7 @@
 -- The promise of the run leaves no choice; a number 0 tells that it was accepted; and the tally of an accepted call is that of its record's bytes and of the
 -- coins. Assumes nothing.
 use mathlib.Core.Path.{_≡_, refl, sym, _∙_, ap, ap₂}
-use mathlib.Core.Bool.{Bool}
-use mathlib.Core.List.{List, [], _∷_, _++_, map}
+use mathlib.Core.List.{List, [], _∷_, map}
 use Prim.Native.Nat.{ℕ, _+_, _≤_}
 use native.Mathlib.Omega.{arith}
 use lib.ListN.{length, getD, take, drop, length-map}
@@ -10,7 +9,7 @@ use lib.Seq.{take-at}
 use Rattle.answers.specs.Verdict.{Verdict, accepted, refused, over}
 use Rattle.answers.proofs.Numbered.{Refused-by}
 use Rattle.clifford.specs.Measurement.{Outcome}
-use Rattle.records.specs.Record.{mark, outcome-of, record-of}
+use Rattle.records.specs.Record.{mark, outcome-of}
 use Rattle.records.specs.Reading.{outcome-part}
 use Rattle.records.proofs.Outcomes.{mark-back}
 use Rattle.records.proofs.Written.{outcomes-written}

@@ -1,29 +1,35 @@
 -- Demand 3 of document 00, said of the bytes of records: where those of two runs of one circuit may differ, and what the record of the list made by exclusive-or
 -- of three lists holds. Assumes nothing.
-use mathlib.Core.Bool.{Bool, _&&_, cond}
+use mathlib.Core.Bool.{Bool, true, false, _&&_, cond}
 use mathlib.Core.List.{List, [], _∷_}
 use mathlib.Core.Path.{_≡_}
-use mathlib.Core.Bool.{false}
 use Prim.Native.Nat.{ℕ, _+_, _-_, _*_, _%_, _≤_, _<_}
 use lib.Bits.{bitXor}
 use lib.Dec.{eqb, ltb}
 use lib.ListN.{length, getD, drop}
 use Rattle.answers.specs.Verdict.{accepted}
 use Rattle.pauli.specs.Letters.{_⊕_}
-use Rattle.pauli.specs.Texts.{sign-byte}
+use Rattle.pauli.specs.Texts.{sign-byte, is-sign}
 use Rattle.circuit.specs.Text.{Circuit, meaning}
 use Rattle.records.specs.Record.{mark-of, outcome-of}
+use Rattle.records.specs.Reading.{is-mark}
 use Rattle.demands.specs.Calls.{Call, number-told, size-told, measured-told, written}
 
 -- behind the outcomes of a record of n qubits: place k holds the sign of a row
 abbrev pub sign-place : ℕ → ℕ → ℕ → Bool
 sign-place n count k = ltb k (count + 2 * (n * (n + 1))) && eqb ((k - count) % (n + 1)) 0
 
--- two records of n qubits with so many outcomes that differ at most in the outcomes' values and in the rows' signs: the kinds are the same, and so are
--- every letter and the trailer
+-- two outcome characters of the same kind
+pub record Same-kind (a b : ℕ) : Type 0 where
+  pub first : is-mark a ≡ true
+  pub second : is-mark b ≡ true
+  pub kind : outcome-of b .random ≡ outcome-of a .random
+
+-- two records of n qubits with so many outcomes that differ at most in the outcomes' values and in the rows' signs: every letter and the trailer are the same
 pub record Records-alike (n count : ℕ) (a b : List ℕ) : Type 0 where
   pub lengths : length b ≡ length a
-  pub kinds : (k : ℕ) → k < count → outcome-of (getD b k 0) .random ≡ outcome-of (getD a k 0) .random
+  pub outcomes : (k : ℕ) → k < count → Same-kind (getD a k 0) (getD b k 0)
+  pub signs : (k : ℕ) → count ≤ k → sign-place n count k ≡ true → (is-sign (getD a k 0) ≡ true) × (is-sign (getD b k 0) ≡ true)
   pub others : (k : ℕ) → count ≤ k → sign-place n count k ≡ false → getD b k 0 ≡ getD a k 0
 
 -- what two calls of one circuit leave: nothing is written and no coin is taken; or two records that are alike

@@ -1,8 +1,7 @@
 -- Matrices over the Gaussian integers, as the sources print them: those of the letters (document 000, section 4.2; 001) and of the gates (000, section 3),
 -- H without its 1/sqrt 2. Assumes nothing.
 use mathlib.Core.List.{List, [], _∷_, _++_, map}
-use Prim.Native.Nat.{ℕ}
-use lib.IntN.{ℤ, pos, negsuc, _+ℤ_, _*ℤ_, negℤ}
+use lib.IntN.{ℤ, pos, _+ℤ_, _*ℤ_, negℤ}
 use Rattle.pauli.specs.Letters.{Letter, I, X, Y, Z, Power, i0, i1, i2, i3}
 use Rattle.clifford.specs.declared.One.{One}
 use Rattle.clifford.specs.declared.One.the-variants.{H, S, PauliX, PauliY, PauliZ}

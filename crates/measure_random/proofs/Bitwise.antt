@@ -1,6 +1,6 @@
 -- The word operations of one column, bit by bit. Assumes nothing.
 use mathlib.Core.Path.{_≡_, sym, ap, ap₂, _∙_}
-use mathlib.Core.Bool.{Bool, false, not, _&&_, _||_, cond}
+use mathlib.Core.Bool.{Bool, false, not, _&&_, cond, _||_}
 use mathlib.Core.List.{[], _∷_}
 use Prim.Native.Nat.{ℕ, _-_, _*_, _/_, _%_, _^_, _<_}
 use lib.Bits.{bitAnd, bitOr, bitXor}

@@ -1,10 +1,10 @@
 -- The laws of rows, over any number of qubits: commuting is symmetric and bilinear, products associate with their power of i,
 -- and the product of commuting rows has an even total. Assumes nothing.
 use mathlib.Core.Path.{_≡_, refl, sym, _∙_, ap}
-use mathlib.Core.Bool.{Bool, true, false}
+use mathlib.Core.Bool.{Bool, false}
 use mathlib.Core.List.{[], _∷_}
-use Prim.Native.Nat.{ℕ, zero, suc}
-use Rattle.pauli.specs.Letters.{Letter, Power, i0, _⊕_, _⊞_, sign, odd, _·_, power, differ}
+use Prim.Native.Nat.{ℕ}
+use Rattle.pauli.specs.Letters.{Letter, Power, i0, _⊕_, _⊞_, sign, odd, differ}
 use Rattle.pauli.specs.Rows.{Letters, anticommute, total, mul, Phased, product, Row, phased, minus-sign, times-row}
 use Rattle.pauli.proofs.Cases.{tested, bit, ltr, pow}
 use Rattle.pauli.proofs.Sums.{sum-cong, sum-plus, sum-map, sum-zero}

@@ -1,7 +1,7 @@
 -- Rows of n letters with a sign, their product and when they commute: document 01, "Rows and their products". Assumes nothing.
 use mathlib.Core.Bool.{Bool, true, false}
 use Prim.Native.Nat.{ℕ}
-use Rattle.pauli.specs.Letters.{Letter, I, Power, i0, i1, i2, i3, _⊕_, _⊞_, sign, _·_, power, differ}
+use Rattle.pauli.specs.Letters.{Letter, Power, i0, i1, i2, i3, _⊕_, _⊞_, sign, _·_, power, differ}
 use Rattle.pauli.specs.Sums.{sum}
 
 -- a letter for each qubit: of a row of n letters the first n count

@@ -1,17 +1,14 @@
 -- How a run ended, from what it answers: its record holds the printed lines, or it was refused, and then by 7. Assumes nothing.
-use mathlib.Core.List.{List, [], _∷_, _++_, map, append-assoc}
-use mathlib.Core.Option.{Option, none, some}
+use mathlib.Core.List.{List, _++_, map, append-assoc}
 use mathlib.Core.Path.{_≡_, refl, sym, _∙_, ap, ap₂}
-use Prim.Native.Nat.{ℕ, suc, _≤_}
+use Prim.Native.Nat.{ℕ, _≤_}
 use native.Mathlib.Omega.{arith}
 use borrow.Author.Tests.{le-leb}
 use lib.Dec.{leb}
 use lib.ListN.{length, getD, drop}
 use Rattle.answers.specs.Verdict.{Verdict, accepted, refused, then, unless}
 use Rattle.clifford.specs.declared.Op.{Op}
-use Rattle.clifford.specs.declared.Op.the-variants.{Gate as apply, Measure as measure}
-use Rattle.clifford.specs.Measurement.{random-row}
-use Rattle.clifford.specs.Run.{State, settle, step, run, begin}
+use Rattle.clifford.specs.Run.{State, run, begin}
 use Rattle.circuit.specs.Text.{Circuit, meaning, count-measured}
 use Rattle.checking.specs.parts.Promises.{Accepts}
 use Rattle.checking.proofs.Meant.{parts}
@@ -20,30 +17,13 @@ use Rattle.records.proofs.Lengths.{square-below}
 use Rattle.run.specs.Run.{Sheet, sheet, run-circuit, run-of, numbers, buffer-after, Runs}
 use Rattle.walking.specs.parts.Walk.{lines-of, or-none}
 use Rattle.walking.proofs.Counting.{run-count}
+use Rattle.run.proofs.Numbered.{ran-seven}
 use Rattle.run.proofs.Sheets.{may-size}
 use Rattle.print_lines.specs.Line.{refusal-line}
 use Rattle.print.specs.declared.Shape.the-variants as shape
 use Rattle.print.specs.Printed.{run-lines, or-refusal, printed}
 use Rattle.print.specs.parts.Sheets.{sheet-lines, Ready, Shown}
 use Rattle.print.proofs.Sheets.{sheet-is}
-
--- a run is refused by 7 alone
-settle-seven : (n line a : ℕ) (e : State) (o : Option ℕ) (coins : List ℕ) (m p : ℕ) → settle n line a e o coins ≡ refused m p → m ≡ 7
-settle-seven n line a e none coins m p q = absurd (let z : _≡_ {A = ℕ} 0 1 = cc in omega arith)
-settle-seven n line a e (some r) [] m p q = cc
-settle-seven n line a e (some r) (byte ∷ coins) m p q = absurd (let z : _≡_ {A = ℕ} 0 1 = cc in omega arith)
-
-step-seven : (n line : ℕ) (op : Op) (e : State) (m p : ℕ) → step n line op e ≡ refused m p → m ≡ 7
-step-seven n line (apply g) e m p q = absurd (let z : _≡_ {A = ℕ} 0 1 = cc in omega arith)
-step-seven n line (measure a) e m p q = settle-seven n line a e (random-row n a (e .rows)) (e .coins) m p q
-
-run-seven : (n line : ℕ) (ops : List Op) (e : State) (m p : ℕ) → run n line ops e ≡ refused m p → m ≡ 7
-run-seven n line [] e m p q = absurd (let z : _≡_ {A = ℕ} 0 1 = cc in omega arith)
-run-seven n line (op ∷ ops) e m p q = go (step n line op e) refl q (λ s. run-seven n (suc line) ops s m p)
-  where
-    go : (v : Verdict State) → step n line op e ≡ v → then v (λ s. run n (suc line) ops s) ≡ refused m p → ((s : State) → run n (suc line) ops s ≡ refused m p → m ≡ 7) → m ≡ 7
-    go (accepted s) u h more = more s h
-    go (refused m′ p′) u h more = let w : m′ ≡ 7 = step-seven n line op e m′ p′ u in cc
 
 -- the text is refused
 pub prints-refusal : (text coins : List ℕ) (number place : ℕ) (sheet : List ℕ) → meaning text ≡ refused number place → Shown text coins (shape.Refused number place) sheet
@@ -116,7 +96,7 @@ module _ (text coins old : List ℕ) (n count measured body : ℕ) (a : Accepts 
         go : (v : Verdict State) → ended ≡ v → printed text coins ≡ sheet-lines (lines-of n body text) n new
         go (accepted e) q = recorded e q
         go (refused m p) q =
-            absurd (omega (arith, z, ap (λ (l : List ℕ). getD l 0 0) (told (refused m p) q), run-seven (a .circuit .qubits) 2 (a .circuit .ops) (begin (a .circuit .qubits) coins) m p q))
+            absurd (omega (arith, z, ap (λ (l : List ℕ). getD l 0 0) (told (refused m p) q), rw q at (ran-seven (a .circuit .qubits) 2 (a .circuit .ops) (begin (a .circuit .qubits) coins))))
 
     pub refused-as : (getD answer 0 0 ≡ 0 → ⊥) → Shown text coins (shape.Refused (getD answer 0 0) (getD answer 1 0)) new
     refused-as z = record { ready = tt; lines = go ended refl }

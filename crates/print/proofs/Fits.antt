@@ -1,14 +1,15 @@
--- How long a printed text can be: 78,080 bytes hold whatever the program prints. Assumes nothing.
+-- How long a printed text can be, so that a buffer of the longest holds whatever is printed. Assumes nothing.
 use mathlib.Core.Bool.{Bool, true, false, cond}
 use mathlib.Core.List.{List, [], _∷_, _++_}
-use mathlib.Core.Path.{_≡_, refl, _∙_}
+use mathlib.Core.Path.{_≡_, refl, _∙_, ap}
 use Prim.Native.Nat.{ℕ, zero, suc, _+_, _*_, _/_, _%_, _^_, _≤_, _<_}
 use native.Mathlib.Nat.{mul-le-mul}
 use native.Mathlib.Omega.{arith}
 use borrow.Author.Tests.{lt-ltb}
 use lib.Dec.{ltb}
 use lib.ListN.{length, length-append}
-use Rattle.answers.specs.Verdict.{Verdict, accepted, refused, then}
+use Rattle.answers.specs.Verdict.{Verdict, accepted, refused, then, within}
+use Rattle.answers.proofs.Numbered.{room-enough}
 use Rattle.pauli.specs.Rows.{Row}
 use Rattle.pauli.specs.Texts.{listed, row-text}
 use Rattle.clifford.specs.declared.Op.{Op}
@@ -23,7 +24,7 @@ use Rattle.records.proofs.Lengths.{length-row-text, length-joined}
 use Rattle.print_lines.specs.Line.{digits-of, decimal, outcome-line, refused-word, refusal-line}
 use Rattle.print_lines.proofs.Digits.{digits-few}
 use Rattle.print_lines.proofs.Putting.{kind-few}
-use Rattle.print.specs.Printed.{outcome-lines, row-line, row-lines, run-lines, or-refusal, printed, first-line, behind-first-line, too-long, shot-printed}
+use Rattle.print.specs.Printed.{longest-text, outcome-lines, row-line, row-lines, run-lines, or-refusal, printed, first-line, behind-first-line, too-long, shot-printed}
 use Rattle.print.proofs.Printing.{spaced-last, spaced-more, line-length}
 
 -- a number below 10 ^ (j + 1) has at most j + 1 digits
@@ -66,7 +67,7 @@ refusal-within : (number place : ℕ) → length (refusal-line number place) ≤
 refusal-within number place =
     omega (arith, spaced-more refused-word (decimal number) (decimal place ∷ []), spaced-more (decimal number) (decimal place) [], spaced-last (decimal place), digits-few 20 number, digits-few 20 place)
 
-run-within : (text : List ℕ) (c : Circuit) → meaning text ≡ accepted c → (v : Verdict State) → length (or-refusal (then v (λ e. accepted (run-lines c e)))) ≤ 78080
+run-within : (text : List ℕ) (c : Circuit) → meaning text ≡ accepted c → (v : Verdict State) → length (or-refusal (then v (λ e. accepted (run-lines c e)))) ≤ longest-text
 run-within text c m (accepted e) =
     let p = parts text c m in
     omega (
@@ -78,18 +79,25 @@ run-within text c m (accepted e) =
     )
 run-within text c m (refused number place) = omega (arith, refusal-within number place)
 
-pub printed-within : (text coins : List ℕ) → length (printed text coins) ≤ 78080
+pub printed-within : (text coins : List ℕ) → length (printed text coins) ≤ longest-text
 unfolding printed
 printed-within text coins = go (meaning text) refl
   where
-    go : (v : Verdict Circuit) → meaning text ≡ v → length (or-refusal (then v (λ c. then (run (c .qubits) 2 (c .ops) (begin (c .qubits) coins)) (λ e. accepted (run-lines c e))))) ≤ 78080
+    go : (v : Verdict Circuit) → meaning text ≡ v → length (or-refusal (then v (λ c. then (run (c .qubits) 2 (c .ops) (begin (c .qubits) coins)) (λ e. accepted (run-lines c e))))) ≤ longest-text
     go (accepted c) e = run-within text c e (run (c .qubits) 2 (c .ops) (begin (c .qubits) coins))
     go (refused number place) e = omega (arith, refusal-within number place)
 
-pub shot-within : (input : List ℕ) → length (shot-printed input) ≤ 78080
+pub shot-within : (input : List ℕ) → length (shot-printed input) ≤ longest-text
 unfolding shot-printed
 shot-within input = go (ltb 60000 (length input))
   where
-    go : (b : Bool) → length (cond b too-long (printed (behind-first-line input) (first-line input))) ≤ 78080
+    go : (b : Bool) → length (cond b too-long (printed (behind-first-line input) (first-line input))) ≤ longest-text
     go true = omega arith
     go false = printed-within (behind-first-line input) (first-line input)
+
+-- with that much room 8 is never given
+pub print-has-room : (text coins : List ℕ) (room : ℕ) → longest-text ≤ room → (place : ℕ) → then (accepted (printed text coins)) (within room) ≡ refused 8 place → ⊥
+print-has-room text coins room h = room-enough (accepted (printed text coins)) room tt (λ bytes e. let q : printed text coins ≡ bytes = cc in omega (arith, ap length q, printed-within text coins))
+
+pub shot-has-room : (input : List ℕ) (room : ℕ) → longest-text ≤ room → (place : ℕ) → then (accepted (shot-printed input)) (within room) ≡ refused 8 place → ⊥
+shot-has-room input room h = room-enough (accepted (shot-printed input)) room tt (λ bytes e. let q : shot-printed input ≡ bytes = cc in omega (arith, ap length q, shot-within input))

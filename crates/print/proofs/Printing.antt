@@ -26,7 +26,7 @@ use Rattle.print_lines.specs.Rows.{parts-closed}
 use Rattle.print_lines.proofs.Digits.{digits-few}
 use Rattle.print_lines.proofs.Putting.{kind-few, value-one, put-nothing}
 use Rattle.print.specs.Printed.{outcome-lines}
-use Rattle.print.specs.parts.Sheets.{outcome-of, op-text, sheet-lines, Ready}
+use Rattle.print.specs.parts.Sheets.{outcome-told, op-text, sheet-lines, Ready}
 
 -- how long an outcome line is
 pub spaced-last : (w : List ℕ) → length (spaced w []) ≡ length w + 1
@@ -49,9 +49,9 @@ op-few line (measure a) o = omega (arith, line-length line a o, digits-few 20 li
 
 -- one operation's line, and those behind it
 op-first : (line : ℕ) (op : Op) (ops : List Op) (sheet : List ℕ) (k : ℕ) → k < length sheet
-    → outcome-lines line (op ∷ ops) (map outcome-of (drop k sheet)) ≡ op-text line op (outcome-of (getD sheet k 0)) ++ outcome-lines (suc line) ops (map outcome-of (drop (k + measures op) sheet))
-op-first line (apply g) ops sheet k h = ap (λ (m : ℕ). outcome-lines (suc line) ops (map outcome-of (drop m sheet))) (sym (add-zero k))
-op-first line (measure a) ops sheet k h = ap (λ (s : List ℕ). outcome-lines line (measure a ∷ ops) (map outcome-of s)) (front sheet k h)
+    → outcome-lines line (op ∷ ops) (map outcome-told (drop k sheet)) ≡ op-text line op (outcome-told (getD sheet k 0)) ++ outcome-lines (suc line) ops (map outcome-told (drop (k + measures op) sheet))
+op-first line (apply g) ops sheet k h = ap (λ (m : ℕ). outcome-lines (suc line) ops (map outcome-told (drop m sheet))) (sym (add-zero k))
+op-first line (measure a) ops sheet k h = ap (λ (s : List ℕ). outcome-lines line (measure a ∷ ops) (map outcome-told s)) (front sheet k h)
 
 pub record Printing (text : List ℕ) (body n : ℕ) (sheet old out : List ℕ) (at line k next : ℕ) : Type 0 where
   pub ops : List Op
@@ -59,7 +59,7 @@ pub record Printing (text : List ℕ) (body n : ℕ) (sheet old out : List ℕ) 
   pub left : operations n room line (drop at text) ≡ accepted ops
   pub done : List ℕ
   pub stored : Stores done old 0 out next
-  pub so-far : outcome-lines 2 (lines-of n body text) (map outcome-of sheet) ≡ done ++ outcome-lines line ops (map outcome-of (drop k sheet))
+  pub so-far : outcome-lines 2 (lines-of n body text) (map outcome-told sheet) ≡ done ++ outcome-lines line ops (map outcome-told (drop k sheet))
   pub count : k + count-measured ops ≡ count-measured (lines-of n body text)
   pub size : next + 51 * length ops ≤ 51 * 4096
   pub lines : line + length ops ≤ 4098
@@ -97,10 +97,10 @@ module _ (text : List ℕ) (body n : ℕ) (sheet old : List ℕ) (r : Ready text
           let q = next-at n (w .room) line text at (w .ops) (w .left) op behind l s in
           omega (arith, ap length (q .ops-is), w .size)
 
-      pub print-on : (new : List ℕ) (last : ℕ) → Stores (op-text line op (outcome-of (getD sheet k 0))) out next new last → Printing text body n sheet old new behind (line + 1) (k + measures op) last
+      pub print-on : (new : List ℕ) (last : ℕ) → Stores (op-text line op (outcome-told (getD sheet k 0))) out next new last → Printing text body n sheet old new behind (line + 1) (k + measures op) last
       print-on new last p =
           let q = next-at n (w .room) line text at (w .ops) (w .left) op behind l s in
-          let t = op-text line op (outcome-of (getD sheet k 0)) in
+          let t = op-text line op (outcome-told (getD sheet k 0)) in
           let u : length (w .ops) ≡ suc (length (q .more)) = ap length (q .ops-is) in
           rw (add-one line) (record {
             ops = q .more;
@@ -109,11 +109,11 @@ module _ (text : List ℕ) (body n : ℕ) (sheet old : List ℕ) (r : Ready text
             done = w .done ++ t;
             stored = stored-then (w .stored) p;
             so-far =
-                w .so-far ∙ ap (λ (o : List Op). w .done ++ outcome-lines line o (map outcome-of (drop k sheet))) (q .ops-is)
+                w .so-far ∙ ap (λ (o : List Op). w .done ++ outcome-lines line o (map outcome-told (drop k sheet))) (q .ops-is)
                 ∙ ap (λ (x : List ℕ). w .done ++ x) (op-first line op (q .more) sheet k print-mark)
-                ∙ sym (append-assoc (w .done) t (outcome-lines (suc line) (q .more) (map outcome-of (drop (k + measures op) sheet))));
+                ∙ sym (append-assoc (w .done) t (outcome-lines (suc line) (q .more) (map outcome-told (drop (k + measures op) sheet))));
             count = omega (arith, w .count, ap count-measured (q .ops-is));
-            size = omega (arith, u, w .size, p .next-is, op-few line op (outcome-of (getD sheet k 0)));
+            size = omega (arith, u, w .size, p .next-is, op-few line op (outcome-told (getD sheet k 0)));
             lines = omega (arith, u, w .lines);
           })
 
@@ -135,8 +135,8 @@ module _ (text : List ℕ) (body n : ℕ) (sheet old : List ℕ) (r : Ready text
       print-end new last p =
           let rows = take (length sheet - k) (drop k sheet) in
           let e : rows ≡ drop k sheet = take-all (length sheet - k) (drop k sheet) (omega (arith, length-drop k sheet)) in
-          let a : outcome-lines 2 (lines-of n body text) (map outcome-of sheet) ≡ w .done =
-          w .so-far ∙ ap (λ (o : List Op). w .done ++ outcome-lines line o (map outcome-of (drop k sheet))) ended ∙ append-nil (w .done) in
+          let a : outcome-lines 2 (lines-of n body text) (map outcome-told sheet) ≡ w .done =
+          w .so-far ∙ ap (λ (o : List Op). w .done ++ outcome-lines line o (map outcome-told (drop k sheet))) ended ∙ append-nil (w .done) in
           let b : parts-closed (n + 1) (drop (count-measured (lines-of n body text)) sheet) (n + n) ≡ parts-closed (n + 1) rows (n + n) =
           ap (λ (s : List ℕ). parts-closed (n + 1) s (n + n)) (ap (λ (m : ℕ). drop m sheet) (sym print-count) ∙ sym e) in
           stored-as (ap₂ _++_ a b) (stored-then (w .stored) p)

@@ -20,17 +20,17 @@ use Rattle.records.proofs.Lengths.{length-row-text, length-joined}
 use Rattle.print_lines.specs.Line.{outcome-line}
 use Rattle.print_lines.specs.Rows.{parts-closed}
 use Rattle.print.specs.Printed.{outcome-lines, row-line, row-lines}
-use Rattle.print.specs.parts.Sheets.{outcome-of, sheet-lines}
+use Rattle.print.specs.parts.Sheets.{outcome-told, sheet-lines}
 
 -- a character tells its outcome
-mark-back : (random value : Bool) → outcome-of (mark-of random value) ≡ record { random = random; value = value }
+mark-back : (random value : Bool) → outcome-told (mark-of random value) ≡ record { random = random; value = value }
 mark-back false false = refl
 mark-back false true = refl
 mark-back true false = refl
 mark-back true true = refl
 
 marks-lines : (line : ℕ) (ops : List Op) (outcomes : List Outcome) (rest : List ℕ) → count-measured ops ≡ length outcomes
-    → outcome-lines line ops (map outcome-of (map mark outcomes ++ rest)) ≡ outcome-lines line ops outcomes
+    → outcome-lines line ops (map outcome-told (map mark outcomes ++ rest)) ≡ outcome-lines line ops outcomes
 marks-lines line [] outcomes rest h = refl
 marks-lines line (apply g ∷ ops) outcomes rest h = marks-lines (suc line) ops outcomes rest (omega arith)
 marks-lines line (measure a ∷ ops) [] rest h = absurd (omega arith)
@@ -67,5 +67,5 @@ unfolding sheet-lines
 sheet-is ops n outcomes t sheet rest h e =
     let b : drop (count-measured ops) sheet ≡ rows-text n t ++ rest =
     ap (drop (count-measured ops)) e ∙ drop-at (map mark outcomes) (rows-text n t ++ rest) (count-measured ops) (length-map outcomes mark ∙ sym h) in
-    ap₂ _++_ (ap (λ (s : List ℕ). outcome-lines 2 ops (map outcome-of s)) e ∙ marks-lines 2 ops outcomes (rows-text n t ++ rest) h)
+    ap₂ _++_ (ap (λ (s : List ℕ). outcome-lines 2 ops (map outcome-told s)) e ∙ marks-lines 2 ops outcomes (rows-text n t ++ rest) h)
     (ap (λ (s : List ℕ). parts-closed (n + 1) s (n + n)) b ∙ rows-closed n t rest)

@@ -50,6 +50,10 @@ pub record Recorded (text coins old answer new : List ℕ) : Type 0 where
   pub rest : List ℕ
   pub runs : Runs text coins old answer rest new
 
+-- the longest printed text: 4,096 outcome lines of 17 bytes, and 128 rows of 66 with their end bytes
+abbrev pub longest-text : ℕ
+longest-text = 78080
+
 -- what stands before the first end byte, which is left off
 abbrev pub first-line : List ℕ → List ℕ
 first-line [] = []

@@ -9,7 +9,7 @@ ghost use Rattle.circuit.specs.Text.{measures};
 ghost use Rattle.circuit_writer.specs.parts.Storing.{Stores};
 ghost use Rattle.walking.specs.parts.Walk.{lines-of};
 ghost use Rattle.print.specs.Printed.{printed, Recorded, too-long, shot-printed};
-ghost use Rattle.print.specs.parts.Sheets.{outcome-of, op-text, sheet-lines, Ready, ReadyAs, shape-lines, Answered, Split};
+ghost use Rattle.print.specs.parts.Sheets.{outcome-told, op-text, sheet-lines, Ready, ReadyAs, shape-lines, Answered, Split};
 use answers::Refusal;
 use answers::Written;
 use checking::Scanned;
@@ -33,7 +33,7 @@ fn measured(op: Op) -> usize
 
 fn put_op(out: &mut [u8], at: usize, line: usize, op: Op, mark: u8) -> usize
     requires { ⌜ at + 51 ≤ 1000000 ⌝ }
-    ensures { λ r. ⌜ Stores (op-text line op (outcome-of mark)) (now (out .entry)) at (now (out .exit)) r ⌝ }
+    ensures { λ r. ⌜ Stores (op-text line op (outcome-told mark)) (now (out .entry)) at (now (out .exit)) r ⌝ }
 {
     match op {
         Op::Gate(_) => at,

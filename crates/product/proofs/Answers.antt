@@ -1,18 +1,15 @@
 -- What the row product's definition gives in each case that the code tells apart. Assumes nothing.
-use mathlib.Core.Path.{_≡_, refl, sym, _∙_, ap, ap₂}
-use mathlib.Core.Bool.{Bool, true, false, not, _&&_, cond}
+use mathlib.Core.Path.{_≡_, refl, sym, _∙_, ap}
+use mathlib.Core.Bool.{Bool, true, false, not, _&&_}
 use mathlib.Core.List.{List}
-use mathlib.Core.Option.{Option, none, some}
 use Prim.Native.Nat.{ℕ, _+_, _-_, _%_, _≤_, _<_}
 use native.Mathlib.Omega.{arith}
 use native.Mathlib.Decide.{decLt}
-use lib.Dec.{eqb, leb, ltb}
+use lib.Dec.{eqb, leb}
 use lib.ListN.{length, getD}
 use borrow.Author.Tests.{eq-eqb, ne-eqb, le-leb, lt-leb, lt-ltb, le-ltb}
-use Rattle.answers.specs.First.{lowest}
 use Rattle.answers.specs.Verdict.{Verdict, accepted, refused, unless, unless-at}
-use Rattle.answers.proofs.First.{Lowest, lowest-some, lowest-none}
-use Rattle.pauli.specs.Letters.{Power, odd}
+use Rattle.answers.proofs.First.{lowest-some, lowest-none}
 use Rattle.pauli.specs.Rows.{phased, product, anticommute, minus-sign, times-row}
 use Rattle.pauli.specs.Texts.{fits-at, spelled, row-text}
 use Rattle.pauli.proofs.RowLaws.{product-even}

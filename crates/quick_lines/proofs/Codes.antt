@@ -18,7 +18,7 @@ use Rattle.clifford.specs.declared.Op.the-variants.{Gate as apply, Measure as m
 use Rattle.clifford.specs.parts.Named.{one-of}
 use Rattle.clifford.specs.Run.{Valid}
 use Rattle.circuit.specs.Lines.{malformed, op-line}
-use Rattle.circuit.specs.Text.{all-below, apart, operations, measures}
+use Rattle.circuit.specs.Text.{all-below, apart, measures}
 use Rattle.circuit.specs.parts.Reading.{Stands}
 use Rattle.quick_lines.specs.parts.Coded.{op-of, op-in, name-in, first-in, second-in, length-in, Allowed, OpAt}
 use Rattle.circuit.proofs.Walk.{and-left, and-right, valid-op, next-at, never-malformed}

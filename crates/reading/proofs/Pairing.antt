@@ -1,6 +1,6 @@
 -- One row against all rows of a group, as words, and when a row is the lower row of a wrong pair. Assumes nothing.
 use mathlib.Core.Path.{_≡_, refl, sym, _∙_, ap, ap₂}
-use mathlib.Core.Bool.{Bool, true, false, not, _&&_, _||_, true≢false}
+use mathlib.Core.Bool.{Bool, true, false, not, _&&_, true≢false, _||_}
 use mathlib.Core.List.{List, [], _∷_}
 use mathlib.Core.Option.{Option, none, some}
 use Prim.Native.Nat.{ℕ, zero, suc, _+_, _-_, _*_, _/_, _%_, _^_, _≤_, _<_}
@@ -15,7 +15,7 @@ use lib.Pow.{shr-le}
 use borrow.Author.Tests.{lt-ltb, eq-eqb, ne-eqb, eqb-false}
 use Rattle.answers.specs.First.{lowest}
 use Rattle.answers.proofs.First.{Answer, lowest-is}
-use Rattle.pauli.specs.Letters.{Letter, I, _⊕_, letter, differ}
+use Rattle.pauli.specs.Letters.{Letter, _⊕_, letter, differ}
 use Rattle.pauli.specs.Rows.{odd-number, anticommute}
 use Rattle.pauli.proofs.Cases as cases
 use Rattle.pauli.proofs.LetterLaws.{xor-adds}

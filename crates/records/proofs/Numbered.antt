@@ -2,9 +2,8 @@
 use mathlib.Core.List.{List}
 use Prim.Native.Nat.{ℕ, _≤_}
 use native.Mathlib.Omega.{arith}
-use Rattle.answers.specs.Verdict.{accepted, unless-at}
 use Rattle.answers.proofs.Numbered.{Refused-by, by-unless, by-unless-at}
-use Rattle.records.specs.Reading.{ends-in-record, first-bad, rows-in, first-wrong, qubits-in, outcome-count, last-record, reading, read-of}
+use Rattle.records.specs.Reading.{ends-in-record, first-bad, rows-in, first-wrong, qubits-in, outcome-count, last-record, read-of}
 
 abbrev pub By-reader : ℕ → Type 0
 By-reader m = (9 ≤ m) × (m ≤ 11)

@@ -14,7 +14,7 @@ use Rattle.records.specs.Reading.{is-mark}
 abbrev pub Marks : List ℕ → Type 0
 Marks s = (i : ℕ) → i < length s → is-mark (getD s i 0) ≡ true
 
-mark-fits : (random value : Bool) → is-mark (mark-of random value) ≡ true
+pub mark-fits : (random value : Bool) → is-mark (mark-of random value) ≡ true
 mark-fits false false = refl
 mark-fits false true = refl
 mark-fits true false = refl

@@ -1,6 +1,6 @@
 -- A row's text spells the row, and a listed text is that of the row it spells. Assumes nothing.
 use mathlib.Core.Path.{_≡_, refl, sym, _∙_, ap}
-use mathlib.Core.Bool.{Bool, true, false, _||_, cond, true≢false}
+use mathlib.Core.Bool.{Bool, true, false, cond, true≢false, _||_}
 use mathlib.Core.List.{List}
 use Prim.Native.Nat.{ℕ, zero, suc, _+_, _≤_, _<_}
 use native.Mathlib.Decide.{decLt}
@@ -27,7 +27,7 @@ letter-back X = refl
 letter-back Y = refl
 letter-back Z = refl
 
-sign-fits : (b : Bool) → is-sign (sign-byte b) ≡ true
+pub sign-fits : (b : Bool) → is-sign (sign-byte b) ≡ true
 sign-fits true = refl
 sign-fits false = refl
 

@@ -1,6 +1,6 @@
 -- The numbers with which a run is refused: none is 0, and with room for the longest record none is 8. Assumes nothing.
-use mathlib.Core.Path.{_≡_, refl, ap}
-use mathlib.Core.Bool.{Bool, true, false}
+use mathlib.Core.Path.{_≡_, refl}
+use mathlib.Core.Bool.{true}
 use mathlib.Core.List.{List, [], _∷_}
 use mathlib.Core.Option.{Option, none, some}
 use Prim.Native.Nat.{ℕ, suc, _≤_}
@@ -20,30 +20,34 @@ use Rattle.checking.proofs.Meant.{parts}
 use Rattle.records.specs.Record.{record-length, longest-record}
 use Rattle.records.proofs.Lengths.{record-within}
 use Rattle.walking.proofs.Counting.{measures-one}
-use Rattle.run.specs.Run.{Sheet, sheet, run-circuit, run-of}
+use Rattle.run.specs.Run.{sheet, run-circuit, run-of}
 
 abbrev Seven : ℕ → Type 0
-Seven m = (1 ≤ m) × (m ≤ 7)
+Seven m = m ≡ 7
 
 abbrev Some : ℕ → Type 0
 Some m = 1 ≤ m
 
-ran-numbered : (n line : ℕ) (ops : List Op) (s : State) → Refused-by Seven (run n line ops s)
-ran-numbered n line [] s = tt
-ran-numbered n line (op ∷ ops) s = by-then Seven (step n line op s) (run n (suc line) ops) (one op) (ran-numbered n (suc line) ops)
+abbrev Not-8 : ℕ → Type 0
+Not-8 m = m ≡ 8 → ⊥
+
+-- the operations of a circuit are refused by 7 alone
+pub ran-seven : (n line : ℕ) (ops : List Op) (s : State) → Refused-by (λ m. m ≡ 7) (run n line ops s)
+ran-seven n line [] s = tt
+ran-seven n line (op ∷ ops) s = by-then Seven (step n line op s) (run n (suc line) ops) (one op) (ran-seven n (suc line) ops)
   where
     settled : (a : ℕ) (o : Option ℕ) (coins : List ℕ) → Refused-by Seven (settle n line a s o coins)
     settled a none coins = tt
-    settled a (some p) [] = omega arith
+    settled a (some p) [] = refl
     settled a (some p) (byte ∷ coins) = tt
 
     one : (o : Op) → Refused-by Seven (step n line o s)
     one (apply g) = tt
     one (measure a) = settled a (random-row n a (s .rows)) (s .coins)
 
-circuit-numbered : (c : Circuit) (coins : List ℕ) → Refused-by Seven (run-circuit c coins)
+circuit-seven : (c : Circuit) (coins : List ℕ) → Refused-by Seven (run-circuit c coins)
 unfolding run-circuit
-circuit-numbered c coins = by-then Seven (run (c .qubits) 2 (c .ops) (begin (c .qubits) coins)) (λ e. accepted (sheet (c .qubits) coins e)) (ran-numbered (c .qubits) 2 (c .ops) (begin (c .qubits) coins)) (λ e. tt)
+circuit-seven c coins = by-then Seven (run (c .qubits) 2 (c .ops) (begin (c .qubits) coins)) (λ e. accepted (sheet (c .qubits) coins e)) (ran-seven (c .qubits) 2 (c .ops) (begin (c .qubits) coins)) (λ e. tt)
 
 -- no refusal has the number 0
 pub run-numbered : (text coins : List ℕ) (room : ℕ) → Refused-by (λ m. 1 ≤ m) (run-of text coins room)
@@ -51,22 +55,22 @@ unfolding run-of
 run-numbered text coins room =
     by-then Some (meaning text) _ (by-more By-text Some (λ m h. h .0) (meaning text) (meaning-numbered text))
     (λ c. by-unless Some (leb (record-length (c .qubits) (count-measured (c .ops))) room) 8 0 (run-circuit c coins) (omega arith)
-    (by-more Seven Some (λ m h. h .0) (run-circuit c coins) (circuit-numbered c coins)))
+    (by-more Seven Some (λ m h. omega arith) (run-circuit c coins) (circuit-seven c coins)))
 
 -- with room for the longest record 8 is never given
 pub run-has-room : (text coins : List ℕ) (room : ℕ) → longest-record ≤ room → (place : ℕ) → run-of text coins room ≡ refused 8 place → ⊥
 unfolding run-of
-run-has-room text coins room h place = never-given Seven (run-of text coins room) (go (meaning text) refl (by-more By-text Seven (λ m k. (k .0, omega (arith, k .1))) (meaning text) (meaning-numbered text))) 8 place (λ k. omega (arith, k .1))
+run-has-room text coins room h place = never-given Not-8 (run-of text coins room) (go (meaning text) refl (by-more By-text Not-8 (λ m k e. omega (arith, k .1)) (meaning text) (meaning-numbered text))) 8 place (λ k. k refl)
   where
     few : (ops : List Op) → count-measured ops ≤ length ops
     few [] = omega arith
     few (op ∷ ops) = omega (arith, few ops, measures-one op)
 
-    go : (v : Verdict Circuit) → meaning text ≡ v → Refused-by Seven v
-        → Refused-by Seven (then v (λ c. unless (leb (record-length (c .qubits) (count-measured (c .ops))) room) 8 0 (run-circuit c coins)))
+    go : (v : Verdict Circuit) → meaning text ≡ v → Refused-by Not-8 v
+        → Refused-by Not-8 (then v (λ c. unless (leb (record-length (c .qubits) (count-measured (c .ops))) room) 8 0 (run-circuit c coins)))
     go (refused number place) e k = k
     go (accepted c) e k =
         let p = parts text c e in
         let l : leb (record-length (c .qubits) (count-measured (c .ops))) room ≡ true
         = le-leb _ room (omega (arith, h, record-within (c .qubits) (count-measured (c .ops)) (p .few-qubits) (omega (arith, few (c .ops), p .few-operations)))) in
-        rw l (circuit-numbered c coins)
+        rw l (by-more Seven Not-8 (λ m k e. omega arith) (run-circuit c coins) (circuit-seven c coins))

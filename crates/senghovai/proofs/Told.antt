@@ -6,12 +6,11 @@ use native.Mathlib.Omega.{arith}
 use lib.ListN.{length, getD, take, drop, length-drop}
 use lib.Seq.{length-take-le}
 use Rattle.answers.specs.declared.Written.{Written}
-use Rattle.answers.specs.Verdict.{Verdict, accepted, refused, then, within, after, counted}
+use Rattle.answers.specs.Verdict.{Verdict, accepted, refused}
 use Rattle.answers.specs.Refusals.{told-written, Writes}
-use Rattle.checking.specs.Check.{Size}
 use Rattle.records.specs.Reading.{Read, read-of}
 use Rattle.run.specs.Run.{Sheet, run-of, numbers, rest-of, Runs}
-use Rattle.senghovai.specs.Exports.{number-of, check-places, run-places, ExportsRun, read-places, write-places, ExportsWritten}
+use Rattle.senghovai.specs.Exports.{number-of, run-places, ExportsRun, read-places, write-places, ExportsWritten}
 
 -- bytes written
 pub wrote : (v : Verdict (List ℕ)) (old : List ℕ) (w : Written) (number : ℕ) (answer new : List ℕ) → Writes v old w new

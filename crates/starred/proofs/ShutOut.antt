@@ -1,14 +1,14 @@
 -- Wrong programs, shut out by name: what the promises of the run, the check and the product force on inputs where each wrong program answers otherwise.
 -- Assumes nothing.
-use mathlib.Core.Path.{_≡_, refl, sym, _∙_, ap}
+use mathlib.Core.Path.{_≡_, ap}
 use mathlib.Core.List.{List, [], _∷_, _++_}
 use Prim.Native.Nat.{ℕ}
-use lib.ListN.{length, getD, take, replicate}
+use lib.ListN.{take, replicate}
 use Rattle.answers.specs.declared.Written.{Written}
-use Rattle.answers.specs.Verdict.{Verdict, accepted, refused}
+use Rattle.answers.specs.Verdict.{accepted}
 use Rattle.answers.specs.Refusals.{told-written, Writes}
 use Rattle.checking.specs.declared.Checked.{Checked}
-use Rattle.checking.specs.Check.{Size, told-check, check-of}
+use Rattle.checking.specs.Check.{told-check, check-of}
 use Rattle.pauli.specs.Texts.{listed}
 use Rattle.product.specs.Product.{product-of}
 use Rattle.records.specs.Record.{low-first, joined, rows-text, trailer, record-with}

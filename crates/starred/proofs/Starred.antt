@@ -1,6 +1,5 @@
 -- Every starred example of document 01 holds of the definitions: one table, one proof. Assumes nothing.
-use mathlib.Core.Path.{_≡_, refl}
-use Rattle.answers.specs.Verdict.{Verdict}
+use mathlib.Core.Path.{refl}
 use Rattle.pauli.specs.Texts.{listed}
 use Rattle.records.specs.Record.{low-first, joined, rows-text, trailer, record-with}
 use Rattle.run.specs.Run.{run-circuit, run-of}

@@ -2,7 +2,6 @@
 use mathlib.Core.List.{List, [], _∷_, _++_}
 use mathlib.Core.Path.{_≡_}
 use Prim.Native.Nat.{ℕ}
-use lib.ListN.{length}
 use Rattle.answers.specs.Verdict.{Verdict, accepted, refused, then}
 use Rattle.pauli.specs.Texts.{spelled, row-text}
 use Rattle.clifford.specs.declared.One.the-variants.{H, S}
@@ -12,7 +11,7 @@ use Rattle.clifford.specs.declared.Gate.the-variants.{One as one, Two as two}
 use Rattle.clifford.specs.Gates.{gate}
 use Rattle.product.specs.Product.{product-of}
 use Rattle.records.specs.Record.{trailer}
-use Rattle.run.specs.Run.{Sheet, run-of}
+use Rattle.run.specs.Run.{run-of}
 
 -- two rows are multiplied; a gate is applied to a row; a circuit is run with coins
 pub data Asked : Type 0 where

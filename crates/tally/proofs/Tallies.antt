@@ -14,7 +14,6 @@ use Rattle.clifford.specs.declared.Op.the-variants.{Gate as apply, Measure as m
 use Rattle.clifford.specs.Tableau.{Rows}
 use Rattle.clifford.specs.Measurement.{Outcome, random-row, collapsed, fixed-value}
 use Rattle.clifford.specs.Run.{State, begin, coin, settle, step, run}
-use Rattle.tally.specs.declared.Tally.{Tally}
 use Rattle.tally.specs.Tally.{one-if, randoms, tally-of}
 use Rattle.tally.specs.parts.Stepping.{none-yet, stepped}
 

@@ -1,7 +1,7 @@
 -- Laws of the bits of words: what each word operation does to bit k. Assumes nothing.
-use mathlib.Core.Path.{_≡_, refl, sym, ap, _∙_, subst}
+use mathlib.Core.Path.{_≡_, refl, sym, ap, _∙_}
 use mathlib.Core.Bool.{Bool, true, false, not, _&&_, _||_}
-use Prim.Native.Nat.{ℕ, zero, suc, _+_, _-_, _*_, _/_, _%_, _^_, _≤_, _<_}
+use Prim.Native.Nat.{ℕ, zero, suc, _+_, _-_, _*_, _/_, _%_, _^_, _<_}
 use native.Mathlib.Nat.{mod-lt, zero-lt-suc, div-self, zero-div, mod-eq-of-lt, div-eq-of-lt, mul-mod-left, pow-suc, one-mul, div-one, le-of-suc-le-suc}
 use native.Mathlib.Numerals.{one-add}
 use lib.Count.{under, trailingZeros}
@@ -9,7 +9,7 @@ use native.Mathlib.Decide.{decLt}
 use native.Mathlib.Omega.{arith}
 use lib.Dec.{eqb}
 use borrow.Author.Tests.{eq-eqb, ne-eqb}
-use lib.Pow.{pow-pos, pow-lt, ones-lt, pow-add, shl-shr, shr-shr}
+use lib.Pow.{pow-pos, pow-lt, pow-add, shl-shr, shr-shr}
 use lib.Bits.{bitAnd, bitOr, bitXor, and-shr, or-shr, xor-shr, and-mod, or-mod, xor-mod, and-mask, xor-add-and}
 use Rattle.words.specs.Bit.{bit}
 use Rattle.pauli.specs.Letters.{_⊕_}

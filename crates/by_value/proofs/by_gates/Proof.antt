@@ -1,9 +1,6 @@
 -- `by_value::by_gates` stays within what it holds. Assumes nothing.
 use mathlib.Core.Path.{_≡_}
-use Prim.Native.Nat.{_-_, _≤_, _<_}
-use native.Mathlib.Omega.{arith}
-use native.Mathlib.Nat.{mod-lt}
-use lib.ListN.{length}
+use Prim.Native.Nat.{_-_, _≤_}
 use borrow.Author.Needs.{needs}
 use Rattle.by_value.proofs.by_gates.Statement.{statement}
 use Rattle.by_value.proofs.by_gates.Tie as tie

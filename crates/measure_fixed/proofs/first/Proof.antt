@@ -1,4 +1,4 @@
--- `ordered::first` meets its contract. Assumes nothing.
+-- `measure_fixed::first` meets its contract. Assumes nothing.
 use borrow.Author.Needs.{needs}
 use Rattle.measure_fixed.proofs.Shifts.{first-bits}
 use Rattle.measure_fixed.proofs.first.Statement.{statement}

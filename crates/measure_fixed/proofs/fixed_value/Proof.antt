@@ -1,4 +1,4 @@
--- `ordered::fixed_value` meets its contract: no factor has plus and one its own sign; else the power of i that `powers` counts is that of the
+-- `measure_fixed::fixed_value` meets its contract: no factor has plus and one its own sign; else the power of i that `powers` counts is that of the
 -- product. Assumes nothing.
 use mathlib.Core.Path.{_≡_, sym, ap, _∙_}
 use Prim.Native.Nat.{ℕ, _<_}

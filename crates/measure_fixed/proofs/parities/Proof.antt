@@ -1,4 +1,4 @@
--- `ordered::parities` meets its contract: each line doubles the number of bits whose parity a bit has. Assumes nothing.
+-- `measure_fixed::parities` meets its contract: each line doubles the number of bits whose parity a bit has. Assumes nothing.
 use Rattle.measure_fixed.proofs.Shifts.{window-one, window-more, window-all}
 use Rattle.measure_fixed.proofs.parities.Statement.{statement}
 use Rattle.measure_fixed.proofs.parities.Tie as tie

@@ -1,4 +1,4 @@
--- `ordered::powers` meets its contract: after j turns the words and the number hold what the first j columns give. Assumes nothing.
+-- `measure_fixed::powers` meets its contract: after j turns the words and the number hold what the first j columns give. Assumes nothing.
 use mathlib.Core.Path.{_≡_, subst}
 use mathlib.Core.Logic.{⊎-elim}
 use Prim.Native.Nat.{_≤_, _-_}

@@ -1,4 +1,4 @@
--- `collapse::multiply` meets its contract: after j turns the first j columns of both groups are multiplied, and the counts are those of their
+-- `measure_random::multiply` meets its contract: after j turns the first j columns of both groups are multiplied, and the counts are those of their
 -- powers of i. Assumes nothing.
 use mathlib.Core.Path.{_≡_, ap, ap₂, sym, _∙_}
 use mathlib.Core.Logic.{⊎-elim}

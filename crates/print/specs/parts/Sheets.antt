@@ -18,8 +18,8 @@ use Rattle.print.specs.declared.Shape.the-variants as shape
 use Rattle.print.specs.Printed.{outcome-lines, printed, Recorded, first-line, behind-first-line}
 
 -- the outcome of a character of the record
-abbrev pub outcome-of : ℕ → Outcome
-outcome-of b = record { random = leb 50 b; value = eqb (b % 2) 1 }
+abbrev pub outcome-told : ℕ → Outcome
+outcome-told b = record { random = leb 50 b; value = eqb (b % 2) 1 }
 
 -- what an operation prints
 abbrev pub op-text : ℕ → Op → Outcome → List ℕ
@@ -28,7 +28,7 @@ op-text line (measure a) o = outcome-line line a o
 
 -- the lines of a record whose run had these operations
 unfoldable pub sheet-lines : List Op → ℕ → List ℕ → List ℕ
-sheet-lines ops n sheet = outcome-lines 2 ops (map outcome-of sheet) ++ parts-closed (n + 1) (drop (count-measured ops) sheet) (n + n)
+sheet-lines ops n sheet = outcome-lines 2 ops (map outcome-told sheet) ++ parts-closed (n + 1) (drop (count-measured ops) sheet) (n + n)
 
 -- an accepted text whose operation lines begin at body, and a record of its run
 pub record Ready (text : List ℕ) (body n : ℕ) (sheet : List ℕ) : Type 0 where

@@ -1,4 +1,4 @@
--- `lines::put_digits` meets its contract. Assumes nothing.
+-- `print_lines::put_digits` meets its contract. Assumes nothing.
 use borrow.Author.Needs.{needs}
 use native.Mathlib.Omega.{arith}
 use Rattle.circuit_writer.proofs.Storing.{stored-then, stored-as}

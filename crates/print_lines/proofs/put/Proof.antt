@@ -1,4 +1,4 @@
--- `lines::put` meets its contract. Assumes nothing.
+-- `print_lines::put` meets its contract. Assumes nothing.
 use Rattle.print_lines.proofs.Putting.{put-past}
 use borrow.Author.Needs.{needs}
 use Rattle.print_lines.proofs.put.Statement.{statement}

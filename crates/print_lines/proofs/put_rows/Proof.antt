@@ -1,4 +1,4 @@
--- `lines::put_rows` meets its contract. Assumes nothing.
+-- `print_lines::put_rows` meets its contract. Assumes nothing.
 use borrow.Author.Needs.{needs}
 use Prim.Native.Nat.{ℕ, _+_, _*_, _-_, _≤_}
 use native.Mathlib.Nat.{zero-mul}

@@ -1,4 +1,4 @@
--- `lines::put_text` meets its contract. Assumes nothing.
+-- `print_lines::put_text` meets its contract. Assumes nothing.
 use borrow.Author.Needs.{needs}
 use Prim.Native.Nat.{_-_, _≤_}
 use native.Mathlib.Omega.{arith}

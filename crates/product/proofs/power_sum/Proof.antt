@@ -4,7 +4,7 @@ use mathlib.Core.Path.{_≡_, _∙_, ap}
 use native.Mathlib.Omega.{arith}
 use lib.ListN.{length}
 use Rattle.product.specs.parts.Table.{power-number}
-use Rattle.product.proofs.Laws.{number-below, phase-below, Summed, sum-none, sum-more}
+use Rattle.product.proofs.Laws.{phase-below, Summed, sum-none, sum-more}
 use Rattle.product.proofs.power_sum.Statement.{statement}
 use Rattle.product.proofs.power_sum.Tie as tie
 

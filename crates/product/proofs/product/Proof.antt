@@ -1,4 +1,4 @@
-use mathlib.Core.Path.{_≡_, refl, sym}
+use mathlib.Core.Path.{refl, sym}
 use Prim.Native.Nat.{_%_}
 use native.Mathlib.Omega.{arith}
 use lib.Dec.{eqb}

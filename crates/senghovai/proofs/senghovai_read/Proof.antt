@@ -1,4 +1,4 @@
-use mathlib.Core.Path.{_≡_, refl}
+use mathlib.Core.Path.{refl}
 use native.Mathlib.Omega.{arith}
 use Rattle.senghovai.specs.Exports.{read-places}
 use Rattle.senghovai.proofs.Told.{is-told, read-told, part-length}

@@ -1,4 +1,4 @@
-use mathlib.Core.Path.{_≡_, sym, ap}
+use mathlib.Core.Path.{sym, ap}
 use Rattle.answers.specs.Refusals.{told-written}
 use Rattle.senghovai.specs.Exports.{write-places}
 use Rattle.senghovai.proofs.Told.{is-told}

@@ -1,7 +1,7 @@
 -- `tool::marked` meets its contract: the name keeps its length. Assumes nothing.
 use borrow.Author.Needs.{needs}
 use mathlib.Core.Path.{_≡_}
-use Prim.Native.Nat.{_-_, _≤_, _<_}
+use Prim.Native.Nat.{_-_, _≤_}
 use lib.ListN.{length}
 use Rattle.io.proofs.Counting.{counts}
 use Rattle.tool.proofs.marked.Statement.{statement}

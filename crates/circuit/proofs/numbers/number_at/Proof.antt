@@ -4,7 +4,6 @@ use native.Mathlib.Omega.{arith}
 use mathlib.Core.Path.{sym, _∙_}
 use lib.ListN.{drop}
 use denote.Ref.{now}
-use Rattle.circuit.specs.Lines.{number, digits}
 use Rattle.circuit.proofs.Digits.{digit-at, no-number, Reading, number-zero, begun, more, stopped, ended, below-thousand}
 use Rattle.circuit.proofs.numbers.number_at.Statement.{statement}
 use Rattle.circuit.proofs.numbers.number_at.Tie as tie

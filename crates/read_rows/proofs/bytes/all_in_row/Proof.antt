@@ -1,4 +1,4 @@
--- `loading::bytes::all_in_row` meets its contract: where the look is still true, the bytes of the row passed are listed. Assumes nothing.
+-- `read_rows::bytes::all_in_row` meets its contract: where the look is still true, the bytes of the row passed are listed. Assumes nothing.
 use Rattle.read_rows.proofs.Places.{no-sign, letter-place, look-more}
 use Rattle.read_rows.specs.parts.Loading.{None-where}
 use Rattle.pauli.specs.Texts.{fits-at}

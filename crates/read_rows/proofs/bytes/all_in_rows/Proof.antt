@@ -1,4 +1,4 @@
--- `loading::bytes::all_in_rows` meets its contract: where the look is still true, the rows passed are listed. Assumes nothing.
+-- `read_rows::bytes::all_in_rows` meets its contract: where the look is still true, the rows passed are listed. Assumes nothing.
 use Rattle.read_rows.proofs.Places.{look-row, rows-end}
 use Rattle.read_rows.proofs.Places.{bad-in-rows, row-inside}
 use Rattle.read_rows.specs.parts.Loading.{None-where}

@@ -1,4 +1,4 @@
--- `loading::bytes::all_marks` meets its contract: where the look is still true, the marks passed are listed. Assumes nothing.
+-- `read_rows::bytes::all_marks` meets its contract: where the look is still true, the marks passed are listed. Assumes nothing.
 use Rattle.read_rows.proofs.Places.{look-more}
 use Rattle.read_rows.specs.parts.Loading.{None-where}
 use Rattle.records.specs.Reading.{is-mark}

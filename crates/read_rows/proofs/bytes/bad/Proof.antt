@@ -1,4 +1,4 @@
--- `loading::bytes::bad` meets its contract: the outcomes, and the rows behind them. Assumes nothing.
+-- `read_rows::bytes::bad` meets its contract: the outcomes, and the rows behind them. Assumes nothing.
 use Rattle.read_rows.proofs.Places.{both, look-all}
 use native.Mathlib.Omega.{arith}
 use native.Mathlib.Nat.{mul-le-mul}

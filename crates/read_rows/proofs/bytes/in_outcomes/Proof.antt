@@ -1,4 +1,4 @@
--- `loading::bytes::in_outcomes` meets its contract: the marks passed are listed. Assumes nothing.
+-- `read_rows::bytes::in_outcomes` meets its contract: the marks passed are listed. Assumes nothing.
 use Rattle.records.specs.Reading.{is-mark}
 use lib.ListN.{getD}
 use native.Mathlib.Omega.{arith}

@@ -1,4 +1,4 @@
--- `loading::bytes::in_row` meets its contract: the bytes of the row passed are listed. Assumes nothing.
+-- `read_rows::bytes::in_row` meets its contract: the bytes of the row passed are listed. Assumes nothing.
 use Rattle.read_rows.proofs.Places.{no-sign, letter-place}
 use Rattle.pauli.specs.Texts.{fits-at}
 use lib.ListN.{getD}

@@ -1,4 +1,4 @@
--- `loading::bytes::in_rows` meets its contract: the rows passed are listed. Assumes nothing.
+-- `read_rows::bytes::in_rows` meets its contract: the rows passed are listed. Assumes nothing.
 use Rattle.read_rows.proofs.Places.{bad-in-rows, row-inside, rows-stop, rows-more, rows-all}
 use native.Mathlib.Nat.{add-mul}
 use native.Mathlib.Omega.{arith}

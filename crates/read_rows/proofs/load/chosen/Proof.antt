@@ -1,4 +1,4 @@
--- `loading::load::chosen` meets its contract. Assumes nothing.
+-- `read_rows::load::chosen` meets its contract. Assumes nothing.
 use Rattle.read_rows.proofs.Slices.{chosen-fits}
 use Rattle.read_rows.proofs.Slices.{chosen-is}
 use borrow.Author.Needs.{needs}

@@ -1,4 +1,4 @@
--- `loading::load::group` meets its contract: the columns passed are stored, and the words behind them are zero. Assumes nothing.
+-- `read_rows::load::group` meets its contract: the columns passed are stored, and the words behind them are zero. Assumes nothing.
 use Rattle.read_rows.proofs.Slices.{built-word}
 use Rattle.read_rows.proofs.Stacks.{place-inside, Filled, filled-none, filled-more, loaded}
 use native.Mathlib.Omega.{arith}

@@ -1,9 +1,9 @@
--- `loading::load::has_x` meets its contract. Assumes nothing.
+-- `read_rows::load::has_x` meets its contract. Assumes nothing.
 use Rattle.pauli.proofs.Cases.{tested, bit}
 use Rattle.pauli.specs.Letters.{I, X, Y, Z, x}
 use lib.Dec.{eqb}
 use mathlib.Core.List.{[], _∷_}
-use mathlib.Core.Bool.{Bool, _||_, cond}
+use mathlib.Core.Bool.{Bool, cond, _||_}
 use mathlib.Core.Path.{_≡_}
 use Rattle.read_rows.proofs.load.has_x.Statement.{statement}
 use Rattle.read_rows.proofs.load.has_x.Tie as tie

@@ -1,4 +1,4 @@
--- `loading::load::has_z` meets its contract. Assumes nothing.
+-- `read_rows::load::has_z` meets its contract. Assumes nothing.
 use Rattle.pauli.proofs.Cases.{tested, bit}
 use Rattle.pauli.specs.Texts.{letter-of}
 use Rattle.pauli.specs.Letters.{I, Y, Z, z}
@@ -6,7 +6,7 @@ use borrow.Author.Tests.{eqb-true}
 use Prim.Native.Nat.{ℕ}
 use lib.Dec.{eqb}
 use mathlib.Core.List.{[], _∷_}
-use mathlib.Core.Bool.{Bool, true, false, _||_, cond}
+use mathlib.Core.Bool.{Bool, true, false, cond, _||_}
 use mathlib.Core.Path.{_≡_, refl}
 use Rattle.read_rows.proofs.load.has_z.Statement.{statement}
 use Rattle.read_rows.proofs.load.has_z.Tie as tie

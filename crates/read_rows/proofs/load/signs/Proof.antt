@@ -1,4 +1,4 @@
--- `loading::load::signs` meets its contract: the signs passed are in the word. Assumes nothing.
+-- `read_rows::load::signs` meets its contract: the signs passed are in the word. Assumes nothing.
 use Rattle.read_rows.proofs.Stacks.{Built, built-none, built-more, next-place}
 use lib.Dec.{eqb}
 use lib.ListN.{getD}

@@ -1,4 +1,4 @@
--- `loading::load::slice` meets its contract: the bytes passed are turned over, the others not. Assumes nothing.
+-- `read_rows::load::slice` meets its contract: the bytes passed are turned over, the others not. Assumes nothing.
 use lib.Bits.{bitXor}
 use mathlib.Core.Bool.{Bool, cond}
 use Rattle.read_rows.proofs.Slices.{turned-none, turned-more}

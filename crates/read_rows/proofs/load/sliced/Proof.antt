@@ -1,4 +1,4 @@
--- `loading::load::sliced` meets its contract: the rows passed are in the bytes. Assumes nothing.
+-- `read_rows::load::sliced` meets its contract: the rows passed are in the bytes. Assumes nothing.
 use Rattle.read_rows.proofs.Stacks.{place-inside}
 use Rattle.read_rows.proofs.Slices.{row-letter}
 use native.Mathlib.Nat.{add-mul}

@@ -1,4 +1,4 @@
--- `loading::load::word` meets its contract: the bytes passed are in the word. Assumes nothing.
+-- `read_rows::load::word` meets its contract: the bytes passed are in the word. Assumes nothing.
 use Rattle.read_rows.proofs.Slices.{Joined, joined-none, joined-more, joined-all}
 use native.Mathlib.Omega.{arith}
 use mathlib.Core.Path.{_≡_, subst}
