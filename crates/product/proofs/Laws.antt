@@ -1,50 +1,52 @@
 -- The laws of the row product's parts: the table by one computed test, powers as numbers, and the bytes of the answer. Assumes nothing.
-use mathlib.Core.Path.{_≡_, refl, sym, _∙_, ap}
-use mathlib.Core.Bool.{Bool, true, false, _&&_, true≢false, _||_}
+use mathlib.Core.Path.{_≡_, refl, sym, _∙_, ap, ap₂}
+use mathlib.Core.Bool.{Bool, true, false, not, _&&_, _||_, cond, true≢false}
 use mathlib.Core.List.{List, [], _∷_, _++_}
 use Prim.Native.Nat.{ℕ, zero, suc, _+_, _-_, _*_, _%_, _≤_, _<_}
+use native.Mathlib.Numerals.{add-one}
 use native.Mathlib.Omega.{arith}
-use lib.Dec.{eqb}
-use lib.ListN.{length, getD, set, take}
+use lib.Dec.{T, eqb, leb}
+use lib.ListN.{length, getD, set, take, length-set}
 use lib.Seq.{drop-set-lt}
-use borrow.Author.Tests.{eqb-true}
+use borrow.Author.Tests.{eqb-true, leb-true}
 use Rattle.answers.specs.Verdict.{over}
 use Rattle.answers.proofs.Writing.{written, written-more, written-all, length-written}
 use Rattle.pauli.specs.Letters.{Letter, I, X, Y, Z, Power, i0, i1, i2, i3, _⊞_, sign, odd, _·_, power}
-use Rattle.pauli.specs.Rows.{total, mul, minus-sign}
+use Rattle.pauli.specs.Rows.{Letters, total, mul, Phased, phased, product, minus-sign}
 use Rattle.pauli.specs.Texts.{letter-byte, letter-of, sign-byte, spelled, fits-at}
-use Rattle.pauli.proofs.Cases.{tested, bit, ltr}
+use Rattle.pauli.proofs.Cases.{tested, agree, bit, ltr}
 use Rattle.pauli.proofs.LetterLaws.{power-adds, add-assoc}
 use Rattle.pauli.proofs.Listed.{length-listed, getD-listed}
 use Rattle.product.specs.parts.Table.{code-of, power-number, letter-text}
 
 -- ---- the table
 
-unfoldable pub products : List ℕ
-products =
-    73 ∷ 48 ∷ 88 ∷ 48 ∷ 89 ∷ 48 ∷ 90 ∷ 48 ∷ 88 ∷ 48 ∷ 73 ∷ 48 ∷ 90 ∷ 49 ∷ 89 ∷ 51 ∷ 89 ∷ 48 ∷ 90 ∷ 51 ∷ 73 ∷ 48 ∷ 88 ∷ 49 ∷ 90 ∷ 48 ∷ 89 ∷ 49 ∷ 88 ∷ 51 ∷ 73 ∷ 48 ∷ []
-
 both : (a b : Bool) → (a && b) ≡ true → (a ≡ true) × (b ≡ true)
 both true b e = (refl, e)
 both false b e = absurd (true≢false (sym e))
 
--- the test over all sixteen entries
-right : (a b : Letter) → (eqb (getD products (8 * code-of a + 2 * code-of b) 0) (letter-byte (a · b)) && eqb (getD products (8 * code-of a + 2 * code-of b + 1) 0) (48 + power-number (power a b))) ≡ true
-unfolding products
-right = tested (ltr ∷ ltr ∷ []) bit _ _ tt
+module _ (t : List ℕ) where
+  -- the test of one entry, that its power is a digit; and that it has the product's letter and power
+  abbrev pub has-digit : Letter → Letter → Bool
+  has-digit a b = leb 48 (getD t (8 * code-of a + 2 * code-of b + 1) 0)
 
-module _ (a b : Letter) where
-  abbrev place : ℕ
-  place = 8 * code-of a + 2 * code-of b
+  abbrev pub is-product : Letter → Letter → Bool
+  is-product a b = eqb (getD t (8 * code-of a + 2 * code-of b) 0) (letter-byte (a · b)) && eqb (getD t (8 * code-of a + 2 * code-of b + 1) 0) (48 + power-number (power a b))
 
-  passed : (eqb (getD products place 0) (letter-byte (a · b)) ≡ true) × (eqb (getD products (place + 1) 0) (48 + power-number (power a b)) ≡ true)
-  passed = both (eqb (getD products place 0) (letter-byte (a · b))) (eqb (getD products (place + 1) 0) (48 + power-number (power a b))) (right a b)
+  -- each test over all sixteen entries is computed for the table that a function has
+  module _ (ok : T (agree (ltr ∷ ltr ∷ []) bit has-digit (λ _ _. true))) (a b : Letter) {k l : ℕ} (ek : k ≡ code-of a) (el : l ≡ code-of b) where
+    pub digit-least : 48 ≤ getD t (8 * k + 2 * l + 1) 0
+    digit-least = rw (ek, el) (leb-true 48 (getD t (8 * code-of a + 2 * code-of b + 1) 0) (tested (ltr ∷ ltr ∷ []) bit has-digit (λ _ _. true) ok a b))
 
-  pub letter-right : getD products (8 * code-of a + 2 * code-of b) 0 ≡ letter-byte (a · b)
-  letter-right = eqb-true (getD products place 0) (letter-byte (a · b)) (passed .0)
+  module _ (ok : T (agree (ltr ∷ ltr ∷ []) bit is-product (λ _ _. true))) (a b : Letter) {k l : ℕ} (ek : k ≡ code-of a) (el : l ≡ code-of b) where
+    passed : (eqb (getD t (8 * code-of a + 2 * code-of b) 0) (letter-byte (a · b)) ≡ true) × (eqb (getD t (8 * code-of a + 2 * code-of b + 1) 0) (48 + power-number (power a b)) ≡ true)
+    passed = both _ _ (tested (ltr ∷ ltr ∷ []) bit is-product (λ _ _. true) ok a b)
 
-  pub power-right : getD products (8 * code-of a + 2 * code-of b + 1) 0 ≡ 48 + power-number (power a b)
-  power-right = eqb-true (getD products (place + 1) 0) (48 + power-number (power a b)) (passed .1)
+    pub letter-right : getD t (8 * k + 2 * l) 0 ≡ letter-byte (a · b)
+    letter-right = rw (ek, el) (eqb-true _ _ (passed .0))
+
+    pub power-right : getD t (8 * k + 2 * l + 1) 0 - 48 ≡ power-number (power a b)
+    power-right = rw (ek, el) (omega (arith, eqb-true (getD t (8 * code-of a + 2 * code-of b + 1) 0) (48 + power-number (power a b)) (passed .1)))
 
 pub code-below : (l : Letter) → code-of l ≤ 3
 code-below I = omega arith
