@@ -14,7 +14,8 @@ use Rattle.clifford.specs.declared.Gate.{Gate}
 use Rattle.clifford.specs.declared.Gate.the-variants.{One as one, Two as two}
 use Rattle.clifford.specs.declared.Op.{Op}
 use Rattle.clifford.specs.declared.Op.the-variants.{Gate as apply, Measure as measure}
-use Rattle.circuit_writer.specs.Writing.{short-decimal, one-letter, two-letter, name-text, qubit-text, qubits-text, line-text, header-text}
+use Rattle.clifford.specs.Named.{one-letter}
+use Rattle.circuit_writer.specs.Writing.{short-decimal, two-letter, name-text, qubit-text, qubits-text, line-text, header-text}
 use Rattle.circuit_writer.specs.parts.Storing.{Small, Stores, Puts}
 
 sets-more : (a b l : List ℕ) (i : ℕ) → sets (sets l i a) (i + length a) b ≡ sets l i (a ++ b)

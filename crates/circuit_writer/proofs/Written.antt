@@ -21,7 +21,8 @@ use Rattle.circuit.specs.Text.{Circuit, all-below, apart, checked, ends, operat
 use Rattle.circuit.proofs.Digits.{digits-more, number-starts}
 use Rattle.checking.proofs.Meant.{meaning-read}
 use Rattle.circuit.proofs.Walk.{after-line, operations-suc, operations-end}
-use Rattle.circuit_writer.specs.Writing.{short-decimal, one-letter, two-letter, qubit-text, line-text, header-text, lines-text, circuit-text}
+use Rattle.clifford.specs.Named.{one-letter}
+use Rattle.circuit_writer.specs.Writing.{short-decimal, two-letter, qubit-text, line-text, header-text, lines-text, circuit-text}
 use Rattle.circuit_writer.specs.parts.Storing.{Small}
 use Rattle.circuit_writer.proofs.Storing.{decimal-one, decimal-two, decimal-three}
 

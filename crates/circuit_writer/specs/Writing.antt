@@ -3,13 +3,12 @@ use mathlib.Core.Bool.{cond}
 use mathlib.Core.List.{List, [], _∷_, _++_}
 use Prim.Native.Nat.{ℕ, _+_, _/_, _%_}
 use lib.Dec.{ltb}
-use Rattle.clifford.specs.declared.One.{One}
-use Rattle.clifford.specs.declared.One.the-variants.{H, S, PauliX, PauliY, PauliZ}
 use Rattle.clifford.specs.declared.Two.{Two}
 use Rattle.clifford.specs.declared.Two.the-variants.{Cx, Cz}
 use Rattle.clifford.specs.declared.Gate.the-variants.{One as one, Two as two}
 use Rattle.clifford.specs.declared.Op.{Op}
 use Rattle.clifford.specs.declared.Op.the-variants.{Gate as apply, Measure as measure}
+use Rattle.clifford.specs.Named.{one-letter}
 use Rattle.circuit.specs.Lines.{space, end-byte}
 use Rattle.circuit.specs.Text.{Circuit}
 
@@ -19,13 +18,6 @@ short-decimal v =
     cond (ltb v 10) ((48 + v) ∷ [])
     (cond (ltb v 100) ((48 + v / 10) ∷ (48 + v % 10) ∷ [])
     ((48 + v / 100) ∷ (48 + v / 10 % 10) ∷ (48 + v % 10) ∷ []))
-
-abbrev pub one-letter : One → ℕ
-one-letter H = 72
-one-letter S = 83
-one-letter PauliX = 88
-one-letter PauliY = 89
-one-letter PauliZ = 90
 
 -- the letter after C
 abbrev pub two-letter : Two → ℕ

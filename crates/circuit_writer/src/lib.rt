@@ -2,10 +2,9 @@
 ghost use mathlib.Core.Path.{_≡_};
 ghost use Prim.Native.Nat.{_+_, _≤_, _<_};
 ghost use lib.ListN.{length};
-ghost use Rattle.circuit_writer.specs.Writing.{short-decimal, one-letter, two-letter, name-text, qubit-text, qubits-text, line-text, header-text};
+ghost use Rattle.circuit_writer.specs.Writing.{short-decimal, two-letter, name-text, qubit-text, qubits-text, line-text, header-text};
 ghost use Rattle.circuit_writer.specs.parts.Storing.{Small, Stores, Puts};
 use clifford::Gate;
-use clifford::One;
 use clifford::Op;
 use clifford::Two;
 
@@ -36,18 +35,6 @@ fn put_qubit(out: &mut [u8], at: usize, v: usize) -> usize
     put_number(out, at + 1, v)
 }
 
-fn letter(gate: One) -> u8
-    ensures { λ r. ⌜ r ≡ one-letter gate ⌝ }
-{
-    match gate {
-        One::H => 72,
-        One::S => 83,
-        One::PauliX => 88,
-        One::PauliY => 89,
-        One::PauliZ => 90,
-    }
-}
-
 fn second_letter(gate: Two) -> u8
     ensures { λ r. ⌜ r ≡ two-letter gate ⌝ }
 {
@@ -64,7 +51,7 @@ fn put_name(out: &mut [u8], at: usize, op: Op) -> usize
     match op {
         Op::Gate(gate) => match gate {
             Gate::One(g, _) => {
-                out[at] = letter(g);
+                out[at] = clifford::letter(g);
                 at + 1
             }
             Gate::Two(g, _, _) => {

@@ -7,3 +7,4 @@ pub mod Spanning
 pub mod Fixed
 pub mod Running
 pub mod Alike
+pub mod Named

@@ -3,4 +3,4 @@ pub mod Gates
 pub mod Tableau
 pub mod Measurement
 pub mod Run
-pub mod parts
+pub mod Named

@@ -1,4 +1,7 @@
 // The eight operations of a circuit: five gates on one qubit, two on two, and the measurement. Their rules are in specs/.
+ghost use mathlib.Core.Path.{_≡_};
+ghost use Rattle.clifford.specs.Named.{one-letter};
+
 pub enum One {
     H,
     S,
@@ -21,4 +24,17 @@ pub enum Gate {
 pub enum Op {
     Gate(Gate),
     Measure(usize),
+}
+
+// The letter of a gate on one qubit.
+pub fn letter(k: One) -> u8
+    ensures { λ r. ⌜ r ≡ one-letter k ⌝ }
+{
+    match k {
+        One::H => 72,
+        One::S => 83,
+        One::PauliX => 88,
+        One::PauliY => 89,
+        One::PauliZ => 90,
+    }
 }

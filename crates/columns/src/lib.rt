@@ -4,14 +4,13 @@ ghost use mathlib.Core.Bool.{cond};
 ghost use mathlib.Core.Path.{_≡_};
 ghost use Prim.Native.Nat.{_<_, _≤_};
 ghost use Rattle.clifford.specs.Gates.{Fits};
-ghost use Rattle.clifford.specs.parts.Named.{one-of};
+ghost use Rattle.clifford.specs.Named.{one-of};
 ghost use Rattle.answers.specs.First.{lowest};
 ghost use Rattle.clifford.specs.Measurement.{has-x};
 ghost use Rattle.packing.specs.View.{Words, group-rows};
 ghost use Rattle.columns.specs.parts.Gated.{Gated};
 ghost use Rattle.columns.specs.parts.LowestRow.{row-found};
 use clifford::Gate;
-use clifford::One;
 use clifford::Two;
 
 pub fn cx(w: &mut [u64; 129], a: usize, b: usize)
@@ -69,25 +68,12 @@ pub fn one(w: &mut [u64; 129], letter: usize, a: usize)
     w[128] = sign ^ turns;
 }
 
-// The letter of a gate on one qubit.
-fn letter(k: One) -> usize
-    ensures { λ r. ⌜ one-of r ≡ k ⌝ }
-{
-    match k {
-        One::H => 72,
-        One::S => 83,
-        One::PauliX => 88,
-        One::PauliY => 89,
-        One::PauliZ => 90,
-    }
-}
-
 pub fn gate(w: &mut [u64; 129], g: Gate)
     requires { ⌜ Words (now w) × Fits 64 g ⌝ }
     ensures { λ _. ⌜ Gated g (now (w .entry)) (now (w .exit)) ⌝ }
 {
     match g {
-        Gate::One(k, a) => one(w, letter(k), a),
+        Gate::One(k, a) => one(w, clifford::letter(k) as usize, a),
         Gate::Two(k, a, b) => match k {
             Two::Cx => cx(w, a, b),
             Two::Cz => cz(w, a, b),

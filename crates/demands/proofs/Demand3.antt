@@ -3,6 +3,7 @@ use mathlib.Core.Path.{_≡_, refl, sym, _∙_, ap, ap₂}
 use mathlib.Core.Bool.{Bool, true, false, cond, true≢false}
 use mathlib.Core.List.{List, [], _∷_, map}
 use Prim.Native.Nat.{ℕ, _≤_}
+use native.Mathlib.Omega.{arith}
 use lib.Dec.{ltb}
 use lib.ListN.{length, getD, take, drop, length-map}
 use lib.Seq.{take-at, drop-at}
@@ -17,6 +18,7 @@ use Rattle.records.proofs.Lengths.{length-record}
 use Rattle.records.specs.Reading.{is-mark}
 use Rattle.records.proofs.Outcomes.{mark-fits, mark-back}
 use Rattle.records.proofs.RowTexts.{sign-fits}
+use Rattle.run.proofs.Numbered.{run-numbered}
 use Rattle.run.specs.Run.{Sheet, run-of, numbers, rest-of, buffer-after}
 use Rattle.demands.specs.Calls.{Call, number-told, size-told, measured-told, written}
 use Rattle.demands.specs.Alike.{sign-place, Same-kind, Records-alike, Leaves, nothing, two-records, xor3, is-minus, byte-of-three, Fourth}
@@ -185,13 +187,18 @@ demand-3-two text p q l k =
         stated : (n : ℕ) {c d : ℕ} {a b x y : List ℕ} → c ≡ d → a ≡ x → b ≡ y → Records-alike n d x y → Records-alike n c a b
         stated n e f g h = rw (e, f, g) h
 
+    some-number : (number place : ℕ) → run-of text (p .coins) (length (p .old)) ≡ refused number place → number-told p ≡ 0 → ⊥
+    some-number number place e z =
+        let h = rw e at (run-numbered text (p .coins) (length (p .old))) in
+        omega (arith, h, z, ap (λ a. getD a 0 0) (answer-known text p (length (p .old)) refl (refused number place) e))
+
     go : (v w : Verdict Sheet) → run-of text (p .coins) (length (p .old)) ≡ v → run-of text (q .coins) (length (p .old)) ≡ w → Runs-alike text v w v w → (q .answer ≡ p .answer) × Leaves text p q
     go (accepted s) (accepted t) e f m = both s t e f (sheets-of text m)
     go (accepted s) (refused number place) e f m = absurd (true≢false (sym (one-fate text m .0)))
     go (refused number place) (accepted t) e f m = absurd (true≢false (one-fate text m .0))
     go (refused number place) (refused count line) e f m = (
       answer-known text q (length (p .old)) k (refused count line) f ∙ one-refusal text m ∙ sym (answer-known text p (length (p .old)) refl (refused number place) e),
-      nothing (new-known text p (length (p .old)) refl (refused number place) e) (new-known text q (length (p .old)) k (refused count line) f)
+      nothing (λ z. some-number number place e z) (new-known text p (length (p .old)) refl (refused number place) e) (new-known text q (length (p .old)) k (refused count line) f)
           (rest-known text p (length (p .old)) refl (refused number place) e) (rest-known text q (length (p .old)) k (refused count line) f),
     )
 

@@ -32,9 +32,9 @@ pub record Records-alike (n count : ℕ) (a b : List ℕ) : Type 0 where
   pub signs : (k : ℕ) → count ≤ k → sign-place n count k ≡ true → (is-sign (getD a k 0) ≡ true) × (is-sign (getD b k 0) ≡ true)
   pub others : (k : ℕ) → count ≤ k → sign-place n count k ≡ false → getD b k 0 ≡ getD a k 0
 
--- what two calls of one circuit leave: nothing is written and no coin is taken; or two records that are alike
+-- what two calls of one circuit leave: they are refused, nothing is written and no coin is taken; or they are accepted, with two records that are alike
 pub data Leaves (text : List ℕ) (p q : Call text) : Type 0 where
-  nothing : p .new ≡ p .old → q .new ≡ q .old → p .rest ≡ p .coins → q .rest ≡ q .coins → Leaves text p q
+  nothing : (number-told p ≡ 0 → ⊥) → p .new ≡ p .old → q .new ≡ q .old → p .rest ≡ p .coins → q .rest ≡ q .coins → Leaves text p q
   two-records : (c : Circuit) → meaning text ≡ accepted c → number-told p ≡ 0 → Records-alike (c .qubits) (measured-told p) (written p) (written q)
       → drop (size-told p) (p .new) ≡ drop (size-told p) (p .old) → drop (size-told p) (q .new) ≡ drop (size-told p) (q .old) → Leaves text p q
 

@@ -9,19 +9,32 @@ use native.Mathlib.Omega.{arith}
 use borrow.Author.Tests.{lt-ltb, ltb-true, ne-eqb}
 use lib.Dec.{eqb, ltb}
 use lib.ListN.{length, drop}
+use Rattle.clifford.specs.declared.One.{One}
+use Rattle.clifford.specs.declared.One.the-variants.{H, S, PauliX, PauliY, PauliZ}
 use Rattle.clifford.specs.declared.Two.{Two}
 use Rattle.clifford.specs.declared.Two.the-variants.{Cx, Cz}
 use Rattle.clifford.specs.declared.Gate.{Gate}
 use Rattle.clifford.specs.declared.Gate.the-variants.{One as one, Two as two}
 use Rattle.clifford.specs.declared.Op.{Op}
 use Rattle.clifford.specs.declared.Op.the-variants.{Gate as apply, Measure as measure}
-use Rattle.clifford.specs.parts.Named.{one-of}
+use Rattle.clifford.specs.Named.{one-letter, one-of}
 use Rattle.clifford.specs.Run.{Valid}
 use Rattle.circuit.specs.Lines.{malformed, op-line}
 use Rattle.circuit.specs.Text.{all-below, apart, measures}
 use Rattle.circuit.specs.parts.Reading.{Stands}
 use Rattle.quick_lines.specs.parts.Coded.{op-of, op-in, name-in, first-in, second-in, length-in, Allowed, OpAt}
 use Rattle.circuit.proofs.Walk.{and-left, and-right, valid-op, next-at, never-malformed}
+
+-- the letter of a gate on one qubit is its name in a number
+pub letter-told : (name : ℕ) (k : One) (a b : ℕ) → name ≡ one-letter k → op-of name a b ≡ apply (one k a)
+letter-told name k a b e = ap (λ (m : ℕ). op-of m a b) e ∙ named k
+  where
+    named : (k : One) → op-of (one-letter k) a b ≡ apply (one k a)
+    named H = refl
+    named S = refl
+    named PauliX = refl
+    named PauliY = refl
+    named PauliZ = refl
 
 -- what stands above a place, and under it
 above : (r d m : ℕ) → r < d → (r + d * m) / d ≡ m

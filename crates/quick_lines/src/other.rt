@@ -1,27 +1,13 @@
 // Reads a line that is not of the usual kind, as the last ones of a text: its operation as a number, made from what `line_at` answers.
 ghost use mathlib.Core.Bool.{true};
 ghost use mathlib.Core.Path.{_≡_};
-ghost use Prim.Native.Nat.{ℕ, _≤_, _<_};
+ghost use Prim.Native.Nat.{_≤_, _<_};
 ghost use Rattle.circuit.specs.Text.{all-below};
-ghost use Rattle.quick_lines.specs.parts.Coded.{op-of, op-in, length-in, OpAt};
-ghost use Rattle.clifford.specs.declared.Op.the-variants.{Gate as apply};
+ghost use Rattle.quick_lines.specs.parts.Coded.{op-in, length-in, OpAt};
 use circuit::Line;
 use clifford::Gate;
-use clifford::One;
 use clifford::Op;
 use clifford::Two;
-
-fn letter(k: One) -> usize
-    ensures { λ r. ⌜ (r < 256) × ((a b : ℕ) → op-of r a b ≡ apply (Gate.One k a)) ⌝ }
-{
-    match k {
-        One::H => 72,
-        One::S => 83,
-        One::PauliX => 88,
-        One::PauliY => 89,
-        One::PauliZ => 90,
-    }
-}
 
 fn of(op: Op, length: usize) -> usize
     requires { ⌜ (all-below 64 op ≡ true) × (1 ≤ length) × (length < 256) ⌝ }
@@ -29,7 +15,7 @@ fn of(op: Op, length: usize) -> usize
 {
     match op {
         Op::Gate(gate) => match gate {
-            Gate::One(k, a) => crate::code::pack(letter(k), a, 0, length),
+            Gate::One(k, a) => crate::code::pack(clifford::letter(k) as usize, a, 0, length),
             Gate::Two(k, a, b) => match k {
                 Two::Cx => crate::code::pack(1, a, b, length),
                 Two::Cz => crate::code::pack(2, a, b, length),

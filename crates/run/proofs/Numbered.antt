@@ -19,7 +19,7 @@ use Rattle.circuit.proofs.Numbered.{By-text, meaning-numbered}
 use Rattle.checking.proofs.Meant.{parts}
 use Rattle.records.specs.Record.{record-length, longest-record}
 use Rattle.records.proofs.Lengths.{record-within}
-use Rattle.walking.proofs.Counting.{measures-one}
+use Rattle.walking.proofs.Counting.{measured-few}
 use Rattle.run.specs.Run.{sheet, run-circuit, run-of}
 
 abbrev Seven : ℕ → Type 0
@@ -62,15 +62,11 @@ pub run-has-room : (text coins : List ℕ) (room : ℕ) → longest-record ≤ r
 unfolding run-of
 run-has-room text coins room h place = never-given Not-8 (run-of text coins room) (go (meaning text) refl (by-more By-text Not-8 (λ m k e. omega (arith, k .1)) (meaning text) (meaning-numbered text))) 8 place (λ k. k refl)
   where
-    few : (ops : List Op) → count-measured ops ≤ length ops
-    few [] = omega arith
-    few (op ∷ ops) = omega (arith, few ops, measures-one op)
-
     go : (v : Verdict Circuit) → meaning text ≡ v → Refused-by Not-8 v
         → Refused-by Not-8 (then v (λ c. unless (leb (record-length (c .qubits) (count-measured (c .ops))) room) 8 0 (run-circuit c coins)))
     go (refused number place) e k = k
     go (accepted c) e k =
         let p = parts text c e in
         let l : leb (record-length (c .qubits) (count-measured (c .ops))) room ≡ true
-        = le-leb _ room (omega (arith, h, record-within (c .qubits) (count-measured (c .ops)) (p .few-qubits) (omega (arith, few (c .ops), p .few-operations)))) in
+        = le-leb _ room (omega (arith, h, record-within (c .qubits) (count-measured (c .ops)) (p .few-qubits) (omega (arith, measured-few (c .ops), p .few-operations)))) in
         rw l (by-more Seven Not-8 (λ m k e. omega arith) (run-circuit c coins) (circuit-seven c coins))

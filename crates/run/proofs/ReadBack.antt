@@ -23,7 +23,7 @@ use Rattle.records.proofs.Start.{start-clean}
 use Rattle.records.proofs.Written.{written-reads}
 use Rattle.run.specs.Run.{Sheet, sheet, run-circuit, run-of}
 use Rattle.run.proofs.Cleanness.{Kept, run-clean}
-use Rattle.walking.proofs.Counting.{run-count, measures-one}
+use Rattle.walking.proofs.Counting.{run-count, measured-few}
 
 -- the circuit of an accepted run, and the state in which it ended
 pub record Accepted-run (text coins : List ℕ) (s : Sheet) : Type 0 where
@@ -61,15 +61,11 @@ module _ (text coins : List ℕ) (s : Sheet) (a : Accepted-run text coins s) whe
       record {
         least = p .some-qubits;
         most = p .few-qubits;
-        few = omega (arith, length-map (a .state .outcomes) mark, run-count (a .circuit .qubits) 2 (a .circuit .ops) (begin (a .circuit .qubits) coins) (a .state) (a .ran), few-measured (a .circuit .ops), p .few-operations);
+        few = omega (arith, length-map (a .state .outcomes) mark, run-count (a .circuit .qubits) 2 (a .circuit .ops) (begin (a .circuit .qubits) coins) (a .state) (a .ran), measured-few (a .circuit .ops), p .few-operations);
         marked = outcomes-marked (a .state .outcomes);
         paired = subst (Good (a .circuit .qubits)) (a .ran) (run-good (a .circuit .qubits) 2 (a .circuit .ops) (begin (a .circuit .qubits) coins) (p .valid) (start-paired (a .circuit .qubits)));
         clean = subst (Kept (a .circuit .qubits)) (a .ran) (run-clean (a .circuit .qubits) 2 (a .circuit .ops) (begin (a .circuit .qubits) coins) (p .valid) (start-clean (a .circuit .qubits)));
       }
-    where
-      few-measured : (ops : List Op) → count-measured ops ≤ length ops
-      few-measured [] = omega arith
-      few-measured (op ∷ ops) = omega (arith, few-measured ops, measures-one op)
 
   -- the record that the run writes reads back as the same outcomes and rows, after any bytes
   pub reads-back : (before : List ℕ) → read-of (before ++ s .bytes)

@@ -24,7 +24,7 @@ use Rattle.tally.specs.declared.Tally.{Tally}
 use Rattle.run.specs.Run.{Sheet, sheet, run-circuit, run-of, numbers, rest-of, buffer-after, Runs}
 use Rattle.walking.specs.parts.Walk.{lines-of, or-none, Ended, Stuck}
 use Rattle.run.specs.parts.Ran.{judgement, Sheeted}
-use Rattle.walking.proofs.Counting.{run-count, measures-one}
+use Rattle.walking.proofs.Counting.{run-count, measured-few}
 
 pub start-rows : (t : Tableau) (n : ℕ) → t .n ≡ n → rows t ≡ start n → start n ≡ rows-of n (t .destabilizers) (t .stabilizers)
 unfolding rows
@@ -172,11 +172,7 @@ not-read text coins old number place e =
 pub may-size : (text : List ℕ) (n count measured body : ℕ) → Accepts text n count measured body → (n ≤ 64) × (measured ≤ 4096)
 may-size text n count measured body a =
     let p = parts text (a .circuit) (a .meant) in
-    (omega (arith, p .few-qubits, a .qubits-is), omega (arith, measured-within (a .circuit .ops), p .few-operations, a .measured-is))
-  where
-    measured-within : (ops : List Op) → count-measured ops ≤ length ops
-    measured-within [] = omega arith
-    measured-within (op ∷ ops) = omega (arith, measured-within ops, measures-one op)
+    (omega (arith, p .few-qubits, a .qubits-is), omega (arith, measured-few (a .circuit .ops), p .few-operations, a .measured-is))
 
 -- what the caller is told
 pub ran-sheet : (text coins old : List ℕ) (size : ℕ) (t : Tally) (rest new : List ℕ) → Sheeted text coins old size t new → rest ≡ drop (t .taken) coins

@@ -19,6 +19,10 @@ pub measures-one : (op : Op) → measures op ≤ 1
 measures-one (apply g) = omega arith
 measures-one (measure a) = omega arith
 
+pub measured-few : (ops : List Op) → count-measured ops ≤ length ops
+measured-few [] = omega arith
+measured-few (op ∷ ops) = omega (arith, measured-few ops, measures-one op)
+
 pub step-count : (n line : ℕ) (op : Op) (e f : State) → step n line op e ≡ accepted f → length (f .outcomes) ≡ length (e .outcomes) + measures op
 step-count n line (apply g) e f q =
     let s : State = record { outcomes = e .outcomes; rows = gated g (e .rows); coins = e .coins } in

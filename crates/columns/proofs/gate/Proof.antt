@@ -1,7 +1,10 @@
 -- `columns::gate` meets its contract: a gate on one qubit is that of its letter. Assumes nothing.
-use mathlib.Core.Path.{_≡_, sym}
+use mathlib.Core.Path.{_≡_, sym, _∙_, ap}
 use mathlib.Core.List.{List}
 use Prim.Native.Nat.{ℕ}
+use native.Mathlib.Omega.{arith}
+use Rattle.clifford.specs.Named.{one-of}
+use Rattle.clifford.proofs.Named.{letter-names, letter-below}
 use Rattle.clifford.specs.declared.Gate.{Gate}
 use Rattle.clifford.specs.declared.Gate.the-variants.{One as one, Two as two}
 use Rattle.clifford.specs.declared.One.{One}
@@ -23,6 +26,9 @@ enum-known-g c = search needs
 
 letter-requires : tie.Need-letter-requires
 letter-requires c κs = search needs
+
+cast-one : tie.Need-cast-one
+cast-one c = omega (arith, c .letter .ensures, letter-below (c .before .before .before .g .given .0 .0))
 
 one-requires : tie.Need-one-requires
 one-requires c κs = let g = c .before .before .before in (g .before .before .pre .0, rw (g .g .given .1) at (g .before .before .pre .1))
@@ -47,7 +53,7 @@ cz-requires c κs =
     (c .before .before .before .before .before .before .pre .0, f .0, f .1, f .2)
 
 returns : tie.Need-returns
-returns c = told-one (c .before .before .before .before .g .given .1) (c .before .letter .ensures) (c .one .ensures)
+returns c = told-one (c .before .before .before .before .g .given .1) (ap one-of (c .before .letter .ensures) ∙ letter-names (c .before .before .before .before .g .given .0 .0)) (c .one .ensures)
 
 returns-2 : tie.Need-returns-2
 returns-2 c = told-two (c .before .before .before .before .before .g2 .given .1) (c .before .before .enum-told .given .1) (c .cx .ensures)
@@ -61,6 +67,7 @@ gate-spec =
     (tie.spec
     enum-known-g
     letter-requires
+    cast-one
     one-requires
     enum-known-g-2
     enum-told

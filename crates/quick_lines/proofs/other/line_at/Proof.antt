@@ -1,4 +1,4 @@
--- `circuit::other::line_at` meets its contract. Assumes nothing.
+-- `quick_lines::other::line_at` meets its contract. Assumes nothing.
 use mathlib.Core.Bool.{_&&_}
 use mathlib.Core.Path.{sym, _∙_, ap₂}
 use native.Mathlib.Omega.{arith}

@@ -1,4 +1,4 @@
--- `circuit::other::of` meets its contract. Assumes nothing.
+-- `quick_lines::other::of` meets its contract. Assumes nothing.
 use mathlib.Core.Bool.{true, _&&_}
 use mathlib.Core.Path.{_≡_, _∙_}
 use Prim.Native.Nat.{ℕ, _<_}
@@ -7,6 +7,8 @@ use native.Mathlib.Omega.{arith}
 use borrow.Author.Tests.{ltb-true}
 use Rattle.circuit.proofs.Walk.{and-left, and-right}
 use borrow.Author.Needs.{needs}
+use Rattle.clifford.proofs.Named.{letter-below}
+use Rattle.quick_lines.proofs.Codes.{letter-told}
 use Rattle.quick_lines.proofs.other.of.Statement.{statement}
 use Rattle.quick_lines.proofs.other.of.Tie as tie
 
@@ -25,10 +27,13 @@ enum-known-gate c = search needs
 letter-requires : tie.Need-letter-requires
 letter-requires c κs = search needs
 
+cast-pack : tie.Need-cast-pack
+cast-pack c = omega (arith, c .letter .ensures, letter-below (c .before .before .gate .given .0 .0))
+
 pack-requires : tie.Need-pack-requires
 pack-requires c κs =
     let p = rw (c .before .before .gate .given .1) at (rw (c .before .before .before .before .before .op .given .1) at (c .before .before .before .before .before .before .before .pre .0)) in
-    (c .letter .ensures .0, byte p, omega arith, c .before .before .before .before .before .before .before .pre .1, c .before .before .before .before .before .before .before .pre .2)
+    (omega (arith, c .letter .ensures, letter-below (c .before .before .gate .given .0 .0)), byte p, omega arith, c .before .before .before .before .before .before .before .pre .1, c .before .before .before .before .before .before .before .pre .2)
 
 enum-known-gate-2 : tie.Need-enum-known-gate-2
 enum-known-gate-2 c = search needs
@@ -60,7 +65,7 @@ pack-requires-4 c κs =
     (omega arith, byte p, omega arith, c .before .before .before .pre .1, c .before .before .before .pre .2)
 
 returns : tie.Need-returns
-returns c = (c .pack .ensures .0, rw (c .before .before .before .before .before .before .op .given .1, c .before .before .before .gate .given .1) (c .pack .ensures .1 ∙ c .before .letter .ensures .1 _ _), c .pack .ensures .2)
+returns c = (c .pack .ensures .0, rw (c .before .before .before .before .before .before .op .given .1, c .before .before .before .gate .given .1) (c .pack .ensures .1 ∙ letter-told _ _ _ _ (c .before .letter .ensures)), c .pack .ensures .2)
 
 returns-2 : tie.Need-returns-2
 returns-2 c = (c .pack2 .ensures .0, rw (c .before .before .before .before .before .before .before .op .given .1, c .before .before .before .before .gate2 .given .1, c .before .enum-told .given .1) (c .pack2 .ensures .1), c .pack2 .ensures .2)
@@ -78,6 +83,7 @@ of-spec =
     enum-known-op
     enum-known-gate
     letter-requires
+    cast-pack
     pack-requires
     enum-known-gate-2
     enum-told

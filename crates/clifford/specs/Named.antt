@@ -5,6 +5,13 @@ use lib.Dec.{eqb}
 use Rattle.clifford.specs.declared.One.{One}
 use Rattle.clifford.specs.declared.One.the-variants.{H, S, PauliX, PauliY, PauliZ}
 
+abbrev pub one-letter : One → ℕ
+one-letter H = 72
+one-letter S = 83
+one-letter PauliX = 88
+one-letter PauliY = 89
+one-letter PauliZ = 90
+
 -- H, S, X, Y and, for any other byte, Z
 abbrev pub one-of : ℕ → One
 one-of c = cond (eqb c 72) H (cond (eqb c 83) S (cond (eqb c 88) PauliX (cond (eqb c 89) PauliY PauliZ)))
