@@ -1,5 +1,5 @@
 -- A buffer that is written from its front, byte by byte: what it holds after each store, and after the last. Assumes nothing.
-use mathlib.Core.Path.{_≡_, refl, sym, _∙_, ap}
+use mathlib.Core.Path.{_≡_, sym, _∙_, ap}
 use mathlib.Core.List.{List, _++_}
 use Prim.Native.Nat.{ℕ, suc, _+_, _≤_, _<_}
 use native.Mathlib.Nat.{zero-add}
@@ -12,9 +12,6 @@ use Rattle.answers.specs.Verdict.{over}
 -- the first k bytes of the answer are written over the old ones
 abbrev pub written : List ℕ → List ℕ → ℕ → List ℕ
 written answer old k = take k answer ++ drop k old
-
-pub written-none : (answer old : List ℕ) → old ≡ written answer old 0
-written-none answer old = refl
 
 pub written-more : (answer old : List ℕ) (k : ℕ) → k < length answer → k < length old → set (written answer old k) k (getD answer k 0) ≡ written answer old (k + 1)
 written-more answer old k ha ho = rw (add-one k) (law (zero-add k) (paste-suc old 0 answer k 0 (omega arith) ha) ∙ ap (λ (n : ℕ). take (suc k) answer ++ drop n old) (zero-add (suc k)))

@@ -8,7 +8,6 @@ use Prim.Native.Nat.{ℕ, zero, suc, _<_}
 use native.Mathlib.Omega.{arith}
 use borrow.Author.Tests.{eqb-true}
 use lib.Dec.{eqb}
-use lib.ListN.{length, length-append}
 use Rattle.answers.specs.Verdict.{accepted}
 use Rattle.clifford.specs.declared.One.the-variants.{H, S, PauliX, PauliY, PauliZ}
 use Rattle.clifford.specs.declared.Two.the-variants.{Cx, Cz}
@@ -167,17 +166,6 @@ line-read s op rest e =
     let r : named names s ≡ found op (10 ∷ rest) = w .first ∙ (λ i. found (sym (z .same) i) (z .text i)) in
     let y = operation-read s op (10 ∷ rest) (among names s op (10 ∷ rest) r) in
     record { text = y .text ∙ sym (append-assoc (name-text op ++ qubits-text op) (10 ∷ []) rest); small = y .small }
-
-line-long : (op : Op) → 0 < length (line-text op)
-line-long (apply (one g a)) = omega arith
-line-long (apply (two g a b)) = omega arith
-line-long (measure a) = omega arith
-
--- the rest after a line is shorter
-pub line-shorter : (s : List ℕ) (op : Op) (rest : List ℕ) → op-line s ≡ found op rest → length rest < length s
-line-shorter s op rest e =
-    let w = line-read s op rest e in
-    omega (arith, ap length (w .text), length-append (line-text op) rest, line-long op)
 
 -- the lines
 ended : (s : List ℕ) → ends s ≡ true → s ≡ []

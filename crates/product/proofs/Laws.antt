@@ -1,18 +1,17 @@
 -- The laws of the row product's parts: the table by one computed test, powers as numbers, and the bytes of the answer. Assumes nothing.
-use mathlib.Core.Path.{_≡_, refl, sym, _∙_, ap, ap₂}
-use mathlib.Core.Bool.{Bool, true, false, not, _&&_, _||_, cond, true≢false}
+use mathlib.Core.Path.{_≡_, refl, sym, _∙_, ap}
+use mathlib.Core.Bool.{Bool, true, false, _&&_, _||_, true≢false}
 use mathlib.Core.List.{List, [], _∷_, _++_}
 use Prim.Native.Nat.{ℕ, zero, suc, _+_, _-_, _*_, _%_, _≤_, _<_}
-use native.Mathlib.Numerals.{add-one}
 use native.Mathlib.Omega.{arith}
 use lib.Dec.{T, eqb, leb}
-use lib.ListN.{length, getD, set, take, length-set}
+use lib.ListN.{length, getD, set, take}
 use lib.Seq.{drop-set-lt}
 use borrow.Author.Tests.{eqb-true, leb-true}
 use Rattle.answers.specs.Verdict.{over}
 use Rattle.answers.proofs.Writing.{written, written-more, written-all, length-written}
 use Rattle.pauli.specs.Letters.{Letter, I, X, Y, Z, Power, i0, i1, i2, i3, _⊞_, sign, odd, _·_, power}
-use Rattle.pauli.specs.Rows.{Letters, total, mul, Phased, phased, product, minus-sign}
+use Rattle.pauli.specs.Rows.{total, mul, minus-sign}
 use Rattle.pauli.specs.Texts.{letter-byte, letter-of, sign-byte, spelled, fits-at}
 use Rattle.pauli.proofs.Cases.{tested, agree, bit, ltr}
 use Rattle.pauli.proofs.LetterLaws.{power-adds, add-assoc}

@@ -1,5 +1,5 @@
 -- The characters of outcomes: each is listed, and tells kind and value. Assumes nothing.
-use mathlib.Core.Path.{_≡_, refl, sym, _∙_, ap, ap₂}
+use mathlib.Core.Path.{_≡_, refl}
 use mathlib.Core.Bool.{Bool, true, false}
 use mathlib.Core.List.{List, [], _∷_, map}
 use Prim.Native.Nat.{ℕ, zero, suc, _<_}
@@ -30,10 +30,3 @@ mark-back false false = refl
 mark-back false true = refl
 mark-back true false = refl
 mark-back true true = refl
-
-pub mark-one : (o p : Outcome) → mark o ≡ mark p → o ≡ p
-mark-one o p e = sym (mark-back (o .random) (o .value)) ∙ ap outcome-of e ∙ mark-back (p .random) (p .value)
-
-pub outcomes-back : (outcomes : List Outcome) → map outcome-of (map mark outcomes) ≡ outcomes
-outcomes-back [] = refl
-outcomes-back (o ∷ os) = ap₂ _∷_ (mark-back (o .random) (o .value)) (outcomes-back os)

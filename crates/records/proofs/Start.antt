@@ -1,18 +1,13 @@
 -- The start rows are what a record holds, with any listed outcome characters. Assumes nothing.
 use mathlib.Core.Path.{_≡_, refl, ap}
 use mathlib.Core.Bool.{Bool, true, false, cond}
-use mathlib.Core.List.{List}
 use Prim.Native.Nat.{ℕ, _≤_}
 use native.Mathlib.Omega.{arith}
 use lib.Dec.{ltb}
-use lib.ListN.{length}
 use borrow.Author.Tests.{ltb-true, le-ltb, ne-eqb}
-use Rattle.clifford.specs.Limits.{most-operations, most-qubits}
 use Rattle.pauli.specs.Letters.{Letter, I, X, Z}
 use Rattle.clifford.specs.Tableau.{alone, blank, start}
-use Rattle.clifford.proofs.Start.{start-paired}
-use Rattle.records.proofs.Outcomes.{Marks}
-use Rattle.records.proofs.Held.{Tidy, Clean, Held}
+use Rattle.records.proofs.Held.{Tidy, Clean}
 
 start-tidy : (n : ℕ) (a : Letter) → Tidy n (λ i. cond (ltb i n) (record { minus = false; letters = alone a i }) blank)
 start-tidy n a = record {
@@ -26,6 +21,3 @@ start-tidy n a = record {
 
 pub start-clean : (n : ℕ) → Clean n (start n)
 start-clean n = record { destabilizers = start-tidy n X; stabilizers = start-tidy n Z }
-
-pub start-held : (n : ℕ) (marks : List ℕ) → 1 ≤ n → n ≤ most-qubits → length marks ≤ most-operations → Marks marks → Held n marks (start n)
-start-held n marks least most few marked = record { least = least; most = most; few = few; marked = marked; paired = start-paired n; clean = start-clean n }

@@ -1,5 +1,5 @@
 -- Reading the last record of some bytes: its rows and outcomes, or refusal 9, 10 or 11. Document 01, "The run record" and "Numbered refusals". Assumes nothing.
-use mathlib.Core.Bool.{Bool, true, false, not, _&&_, cond, _||_}
+use mathlib.Core.Bool.{Bool, true, false, not, _&&_, cond}
 use mathlib.Core.List.{List, [], _∷_}
 use mathlib.Core.Option.{Option, none, some}
 use Prim.Native.Nat.{ℕ, _+_, _-_, _*_, _%_}

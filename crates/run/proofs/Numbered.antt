@@ -6,7 +6,6 @@ use mathlib.Core.Option.{Option, none, some}
 use Prim.Native.Nat.{ℕ, suc, _≤_}
 use native.Mathlib.Omega.{arith}
 use lib.Dec.{leb}
-use lib.ListN.{length}
 use borrow.Author.Tests.{le-leb}
 use Rattle.answers.specs.Verdict.{Verdict, accepted, refused, then, unless}
 use Rattle.answers.proofs.Numbered.{Refused-by, by-then, by-unless, by-more, never-given}

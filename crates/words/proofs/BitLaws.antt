@@ -1,6 +1,6 @@
 -- Laws of the bits of words: what each word operation does to bit k. Assumes nothing.
 use mathlib.Core.Path.{_≡_, refl, sym, ap, _∙_}
-use mathlib.Core.Bool.{Bool, true, false, not, _&&_, _||_}
+use mathlib.Core.Bool.{Bool, true, false, _&&_, _||_}
 use Prim.Native.Nat.{ℕ, zero, suc, _+_, _-_, _*_, _/_, _%_, _^_, _<_}
 use native.Mathlib.Nat.{mod-lt, zero-lt-suc, div-self, zero-div, mod-eq-of-lt, div-eq-of-lt, mul-mod-left, pow-suc, one-mul, div-one, le-of-suc-le-suc}
 use native.Mathlib.Numerals.{one-add}
@@ -10,7 +10,7 @@ use native.Mathlib.Omega.{arith}
 use lib.Dec.{eqb}
 use borrow.Author.Tests.{eq-eqb, ne-eqb}
 use lib.Pow.{pow-pos, pow-lt, pow-add, shl-shr, shr-shr}
-use lib.Bits.{bitAnd, bitOr, bitXor, and-shr, or-shr, xor-shr, and-mod, or-mod, xor-mod, and-mask, xor-add-and}
+use lib.Bits.{bitAnd, bitOr, bitXor, and-shr, or-shr, xor-shr, and-mod, or-mod, xor-mod, and-mask}
 use Rattle.words.specs.Bit.{bit}
 use Rattle.pauli.specs.Letters.{_⊕_}
 
@@ -62,17 +62,6 @@ right false false e = e
 -- a word of m ones has each bit below m
 pub bit-ones : (m k : ℕ) → k < m → bit k (2 ^ m - 1) ≡ true
 bit-ones m k h = right (bit k (2 ^ k)) _ (sym (bit-and k (2 ^ k) (2 ^ m - 1)) ∙ ap (bit k) (and-mask (2 ^ k) m ∙ mod-eq-of-lt (pow-lt h)) ∙ bit-own k)
-
-xor-true : (a : Bool) → a ⊕ true ≡ not a
-xor-true true = refl
-xor-true false = refl
-
--- the complement, as the code's `!a` has it
-pub bit-not : (m k a : ℕ) → k < m → a < 2 ^ m → bit k ((2 ^ m - 1) - a) ≡ not (bit k a)
-bit-not m k a h ha =
-    let e : bitAnd a (2 ^ m - 1) ≡ a = and-mask a m ∙ mod-eq-of-lt ha in
-    let n : (2 ^ m - 1) - a ≡ bitXor a (2 ^ m - 1) = omega (arith, xor-add-and a (2 ^ m - 1), e) in
-    ap (bit k) n ∙ bit-xor k a (2 ^ m - 1) ∙ ap (λ (b : Bool). bit k a ⊕ b) (bit-ones m k h) ∙ xor-true (bit k a)
 
 -- a test of bit j, as the code's `(w >> j) & 1 == 1` has it
 pub bit-set : (j w : ℕ) → bitAnd (w / 2 ^ j) 1 ≡ 1 → bit j w ≡ true
