@@ -33,12 +33,19 @@ pub by-more : {A : Type 0} (P Q : ℕ → Type 0) → ((m : ℕ) → P m → Q m
 by-more P Q h (accepted a) x = tt
 by-more P Q h (refused number place) x = h number x
 
+-- any number but 8
+abbrev pub Not-8 : ℕ → Type 0
+Not-8 m = m ≡ 8 → ⊥
+
+pub not-accepted : {A : Type 0} (number place : ℕ) (a : A) → refused number place ≡ accepted a → ⊥
+not-accepted number place a e = let z : _≡_ {A = ℕ} 0 1 = cc in omega arith
+
 -- a number that is not among them is never given
 pub never-given : {A : Type 0} (P : ℕ → Type 0) (v : Verdict A) → Refused-by P v → (number place : ℕ) → (P number → ⊥) → v ≡ refused number place → ⊥
 never-given P v h number place n e = n (rw e at h)
 
 -- 8 is never given where it is not given before and the answer fits
-pub room-enough : (v : Verdict (List ℕ)) (room : ℕ) → Refused-by (λ m. m ≡ 8 → ⊥) v → ((bytes : List ℕ) → v ≡ accepted bytes → length bytes ≤ room) → (place : ℕ) → then v (within room) ≡ refused 8 place → ⊥
+pub room-enough : (v : Verdict (List ℕ)) (room : ℕ) → Refused-by Not-8 v → ((bytes : List ℕ) → v ≡ accepted bytes → length bytes ≤ room) → (place : ℕ) → then v (within room) ≡ refused 8 place → ⊥
 room-enough (accepted bytes) room h g place e =
     let q : leb (length bytes) room ≡ true = le-leb (length bytes) room (g bytes refl) in
     let w : within room bytes ≡ accepted bytes = ap (λ b. unless b 8 0 (accepted bytes)) q in

@@ -5,7 +5,7 @@ use Prim.Native.Nat.{ℕ, _≤_}
 use native.Mathlib.Omega.{arith}
 use lib.ListN.{length}
 use Rattle.answers.specs.Verdict.{Verdict, accepted, refused, then, within}
-use Rattle.answers.proofs.Numbered.{by-then, by-more, room-enough}
+use Rattle.answers.proofs.Numbered.{by-then, by-more, Not-8, not-accepted, room-enough}
 use Rattle.records.specs.Record.{longest-record}
 use Rattle.records.specs.Reading.{Read, read-of}
 use Rattle.records.proofs.Lengths.{length-record, record-within}
@@ -18,8 +18,8 @@ rewritten-within s r e = let h = read-held s r e in omega (arith, length-record 
 
 pub copy-has-room : (s : List ℕ) (room : ℕ) → longest-record ≤ room → (place : ℕ) → then (copy-of s) (within room) ≡ refused 8 place → ⊥
 copy-has-room s room h =
-    room-enough (copy-of s) room (by-then (λ m. m ≡ 8 → ⊥) (read-of s) (λ r. accepted (rewritten r)) (by-more By-reader (λ m. m ≡ 8 → ⊥) (λ m k e. omega (arith, k .0)) (read-of s) (read-numbered s)) (λ r. tt)) (fits (read-of s) (rewritten-within s))
+    room-enough (copy-of s) room (by-then Not-8 (read-of s) (λ r. accepted (rewritten r)) (by-more By-reader Not-8 (λ m k e. omega (arith, k .0)) (read-of s) (read-numbered s)) (λ r. tt)) (fits (read-of s) (rewritten-within s))
   where
     fits : (v : Verdict Read) → ((r : Read) → v ≡ accepted r → length (rewritten r) ≤ longest-record) → (bytes : List ℕ) → then v (λ r. accepted (rewritten r)) ≡ accepted bytes → length bytes ≤ room
     fits (accepted r) k bytes e = let q : rewritten r ≡ bytes = cc in omega (arith, k r (λ i. accepted r), ap length q, h)
-    fits (refused number place) k bytes e = absurd (let z : _≡_ {A = ℕ} 0 1 = cc in omega arith)
+    fits (refused number place) k bytes e = absurd (not-accepted number place bytes e)

@@ -4,7 +4,8 @@ use Prim.Native.Nat.{_<_}
 use native.Mathlib.Omega.{arith}
 use Rattle.clifford.specs.declared.One.{One}
 use Rattle.clifford.specs.declared.One.the-variants.{H, S, PauliX, PauliY, PauliZ}
-use Rattle.clifford.specs.Named.{one-letter, one-of}
+use Rattle.clifford.specs.Named.{one-letter}
+use Rattle.clifford.specs.parts.ByLetter.{one-of}
 
 pub letter-names : (k : One) → one-of (one-letter k) ≡ k
 letter-names H = refl

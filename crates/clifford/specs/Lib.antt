@@ -4,3 +4,4 @@ pub mod Tableau
 pub mod Measurement
 pub mod Run
 pub mod Named
+pub mod parts

@@ -1,7 +1,5 @@
--- The gates on one qubit by the byte of their letter. Assumes nothing.
-use mathlib.Core.Bool.{cond}
+-- The letters of the gates on one qubit: document 01, "The circuit text". Assumes nothing.
 use Prim.Native.Nat.{ℕ}
-use lib.Dec.{eqb}
 use Rattle.clifford.specs.declared.One.{One}
 use Rattle.clifford.specs.declared.One.the-variants.{H, S, PauliX, PauliY, PauliZ}
 
@@ -11,7 +9,3 @@ one-letter S = 83
 one-letter PauliX = 88
 one-letter PauliY = 89
 one-letter PauliZ = 90
-
--- H, S, X, Y and, for any other byte, Z
-abbrev pub one-of : ℕ → One
-one-of c = cond (eqb c 72) H (cond (eqb c 83) S (cond (eqb c 88) PauliX (cond (eqb c 89) PauliY PauliZ)))

@@ -16,7 +16,7 @@ use Rattle.pauli.proofs.Cases.{tested, bit as bool}
 use Rattle.clifford.specs.declared.One.the-variants.{H, S, PauliX, PauliY, PauliZ}
 use Rattle.clifford.specs.declared.Two.the-variants.{Cx, Cz}
 use Rattle.clifford.specs.declared.Gate.the-variants.{One as one, Two as two}
-use Rattle.clifford.specs.Named.{one-of}
+use Rattle.clifford.specs.parts.ByLetter.{one-of}
 use Rattle.packing.specs.View.{Words}
 use Rattle.columns.specs.parts.Gated.{Gated}
 use Rattle.columns.proofs.Stores.{same-letter, put, put-other, keep-x, keep-z}

@@ -4,7 +4,7 @@ ghost use mathlib.Core.Bool.{cond};
 ghost use mathlib.Core.Path.{_≡_};
 ghost use Prim.Native.Nat.{_<_, _≤_};
 ghost use Rattle.clifford.specs.Gates.{Fits};
-ghost use Rattle.clifford.specs.Named.{one-of};
+ghost use Rattle.clifford.specs.parts.ByLetter.{one-of};
 ghost use Rattle.answers.specs.First.{lowest};
 ghost use Rattle.clifford.specs.Measurement.{has-x};
 ghost use Rattle.packing.specs.View.{Words, group-rows};

@@ -5,7 +5,7 @@ use Prim.Native.Nat.{ℕ, _≤_}
 use native.Mathlib.Omega.{arith}
 use lib.ListN.{length}
 use Rattle.answers.specs.Verdict.{Verdict, accepted, refused, then, within}
-use Rattle.answers.proofs.Numbered.{Refused-by, by-then, by-unless, by-more, room-enough}
+use Rattle.answers.proofs.Numbered.{Refused-by, by-then, by-unless, by-more, Not-8, not-accepted, room-enough}
 use Rattle.clifford.specs.declared.Gate.{Gate}
 use Rattle.clifford.specs.declared.Op.{Op}
 use Rattle.clifford.specs.declared.Op.the-variants.{Gate as apply, Measure as measure}
@@ -18,9 +18,6 @@ use Rattle.records.proofs.Lengths.{length-record, record-within}
 use Rattle.records.proofs.Again.{read-held}
 use Rattle.records.proofs.Numbered.{By-reader, read-numbered}
 use Rattle.patch.specs.Patch.{gate-alone, gate-line, gate-for, patched, patch-of}
-
-abbrev Not-8 : ℕ → Type 0
-Not-8 m = m ≡ 8 → ⊥
 
 gate-numbered : (n : ℕ) (line : List ℕ) → Refused-by Not-8 (gate-for n line)
 gate-numbered n line =
@@ -46,14 +43,11 @@ patch-has-room s line room h =
     (by-then Not-8 (read-of s) _ (by-more By-reader Not-8 (λ m k e. omega (arith, k .0)) (read-of s) (read-numbered s)) (λ r. by-then Not-8 (gate-for (r .qubits) line) (λ g. accepted (patched r g)) (gate-numbered (r .qubits) line) (λ g. tt)))
     (fits (read-of s) (patched-within s))
   where
-    no : (number place : ℕ) (bytes : List ℕ) → _≡_ {A = Verdict (List ℕ)} (refused number place) (accepted bytes) → ⊥
-    no number place bytes e = let z : _≡_ {A = ℕ} 0 1 = cc in omega arith
-
     last : (r : Read) (v : Verdict Gate) → ((g : Gate) → length (patched r g) ≤ longest-record) → (bytes : List ℕ) → then v (λ g. accepted (patched r g)) ≡ accepted bytes → length bytes ≤ room
     last r (accepted g) k bytes e = let q : patched r g ≡ bytes = cc in omega (arith, k g, ap length q, h)
-    last r (refused number place) k bytes e = absurd (no number place bytes e)
+    last r (refused number place) k bytes e = absurd (not-accepted number place bytes e)
 
     fits : (v : Verdict Read) → ((r : Read) (g : Gate) → v ≡ accepted r → length (patched r g) ≤ longest-record) → (bytes : List ℕ)
         → then v (λ r. then (gate-for (r .qubits) line) (λ g. accepted (patched r g))) ≡ accepted bytes → length bytes ≤ room
     fits (accepted r) k bytes e = last r (gate-for (r .qubits) line) (λ g. k r g refl) bytes e
-    fits (refused number place) k bytes e = absurd (no number place bytes e)
+    fits (refused number place) k bytes e = absurd (not-accepted number place bytes e)

@@ -17,7 +17,8 @@ use Rattle.clifford.specs.declared.Gate.{Gate}
 use Rattle.clifford.specs.declared.Gate.the-variants.{One as one, Two as two}
 use Rattle.clifford.specs.declared.Op.{Op}
 use Rattle.clifford.specs.declared.Op.the-variants.{Gate as apply, Measure as measure}
-use Rattle.clifford.specs.Named.{one-letter, one-of}
+use Rattle.clifford.specs.Named.{one-letter}
+use Rattle.clifford.specs.parts.ByLetter.{one-of}
 use Rattle.clifford.specs.Run.{Valid}
 use Rattle.circuit.specs.Lines.{malformed, op-line}
 use Rattle.circuit.specs.Text.{all-below, apart, measures}

@@ -8,7 +8,7 @@ use native.Mathlib.Omega.{arith}
 use lib.Dec.{leb}
 use borrow.Author.Tests.{le-leb}
 use Rattle.answers.specs.Verdict.{Verdict, accepted, refused, then, unless}
-use Rattle.answers.proofs.Numbered.{Refused-by, by-then, by-unless, by-more, never-given}
+use Rattle.answers.proofs.Numbered.{Refused-by, by-then, by-unless, by-more, never-given, Not-8}
 use Rattle.clifford.specs.declared.Op.{Op}
 use Rattle.clifford.specs.declared.Op.the-variants.{Gate as apply, Measure as measure}
 use Rattle.clifford.specs.Measurement.{random-row}
@@ -26,9 +26,6 @@ Seven m = m ≡ 7
 
 abbrev Some : ℕ → Type 0
 Some m = 1 ≤ m
-
-abbrev Not-8 : ℕ → Type 0
-Not-8 m = m ≡ 8 → ⊥
 
 -- the operations of a circuit are refused by 7 alone
 pub ran-seven : (n line : ℕ) (ops : List Op) (s : State) → Refused-by (λ m. m ≡ 7) (run n line ops s)

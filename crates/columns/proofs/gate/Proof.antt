@@ -3,7 +3,7 @@ use mathlib.Core.Path.{_≡_, sym, _∙_, ap}
 use mathlib.Core.List.{List}
 use Prim.Native.Nat.{ℕ}
 use native.Mathlib.Omega.{arith}
-use Rattle.clifford.specs.Named.{one-of}
+use Rattle.clifford.specs.parts.ByLetter.{one-of}
 use Rattle.clifford.proofs.Named.{letter-names, letter-below}
 use Rattle.clifford.specs.declared.Gate.{Gate}
 use Rattle.clifford.specs.declared.Gate.the-variants.{One as one, Two as two}

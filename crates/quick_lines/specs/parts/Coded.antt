@@ -10,7 +10,7 @@ use Rattle.clifford.specs.declared.Two.the-variants.{Cx, Cz}
 use Rattle.clifford.specs.declared.Gate.the-variants.{One as one, Two as two}
 use Rattle.clifford.specs.declared.Op.{Op}
 use Rattle.clifford.specs.declared.Op.the-variants.{Gate as apply, Measure as measure}
-use Rattle.clifford.specs.Named.{one-of}
+use Rattle.clifford.specs.parts.ByLetter.{one-of}
 use Rattle.circuit.specs.Lines.{is-digit, qubit, op-line}
 use Rattle.circuit.specs.Text.{all-below, apart, operations}
 use Rattle.circuit.specs.parts.Reading.{Stands}
