@@ -61,13 +61,6 @@ uint64_t senghovai_read(const uint8_t *bytes, size_t len, uint64_t answer[5]);
    answer: place, length */
 uint64_t senghovai_copy(const uint8_t *bytes, size_t len, uint8_t *out, size_t out_len, uint64_t answer[2]);
 
-/* Applies one gate line (not M), end byte included, to the rows of the last record of the lent bytes, keeps its outcomes, and writes the new record.
-   Accepted: how many bytes were written at the front of `out`. Refusals in order: 9, 10, 11; then 3 (also for M, or for bytes behind the line),
-   4, 5, each at line 1; then 8. When refused, every byte of `out` is as before.
-   answer: place, length */
-uint64_t senghovai_patch(const uint8_t *bytes, size_t len, const uint8_t *line, size_t line_len,
-                         uint8_t *out, size_t out_len, uint64_t answer[2]);
-
 /* Multiplies two rows, each `+` or `-` and 1 to 64 letters I, X, Y, Z, and writes the product in the same form. Accepted: how many bytes were
    written at the front of `out`. Refusals in order: 13, 10, 12, 8. When refused, every byte of `out` is as before.
    answer: place, length */

@@ -27,7 +27,7 @@ function place_of(told) {
     if (told == "pair") return pair_told(pick("ARCHIVE"))
     if (told == "byte") return pick("ROW") ? row_byte_told() : byte_told(pick("ARCHIVE"))
     if (told == "" || told == "none") return place ? "place " place : ""
-    return line_told(told, pick("CIRCUIT") ? pick("CIRCUIT") : pick("LINE"))
+    return line_told(told, pick("CIRCUIT"))
 }
 
 # The word of that role that is meant: the second of two where the refusal says so. 0 where there is none.
@@ -58,12 +58,11 @@ function file(k,   i, same) {
 
 # ---- lines of a text
 
-# Sets from and to, the bytes of a line of word k without its end byte. A word that is a line itself is one line, whatever it holds.
+# Sets from and to, the bytes of a line of word k without its end byte.
 function find_line(k, wanted,   i, line) {
-    section = role[k] == "LINE" ? "name" : "bytes"
     from = line = 1
-    for (i = 1; i <= count[k, section]; i++)
-        if (section == "bytes" && byte[k, section, i] == 10) {
+    for (i = 1; i <= count[k, "bytes"]; i++)
+        if (byte[k, "bytes", i] == 10) {
             if (line++ == wanted) break
             from = i + 1
         }
@@ -73,34 +72,33 @@ function find_line(k, wanted,   i, line) {
 # The line as text, in which a byte that no line may hold is a question mark.
 function plain(k,   s, i, b) {
     for (i = from; i <= to; i++) {
-        b = byte[k, section, i]
+        b = byte[k, "bytes", i]
         s = s (b >= 32 && b < 127 ? sprintf("%c", b) : "?")
     }
     return s
 }
 
 # Whether s is the front of an allowed line.
-function is_front(s, k) {
-    if (role[k] == "CIRCUIT" && place == 1) return s ~ /^Q( (0|[1-9][0-9]?[0-9]?)?)?$/
+function is_front(s) {
+    if (place == 1) return s ~ /^Q( (0|[1-9][0-9]?[0-9]?)?)?$/
     if (s ~ /^C([XZ]( ((0|[1-9][0-9]?[0-9]?)( (0|[1-9][0-9]?[0-9]?)?)?)?)?)?$/) return 1
-    return s ~ /^[HSXYZM]( (0|[1-9][0-9]?[0-9]?)?)?$/ && !(role[k] == "LINE" && s ~ /^M/)
+    return s ~ /^[HSXYZM]( (0|[1-9][0-9]?[0-9]?)?)?$/
 }
 
-function misfit(s, k,   c) {
+function misfit(s,   c) {
     for (c = 1; c <= length(s); c++)
-        if (!is_front(substr(s, 1, c), k)) return c
+        if (!is_front(substr(s, 1, c))) return c
     return c
 }
 
-# How many qubits there are: line 1 says so, or the record that is patched.
+# How many qubits there are, as line 1 says.
 function qubits(k) {
-    if (role[k] == "LINE") return read_end(pick("ARCHIVE")) ? wide : 0
     find_line(k, 1)
     return substr(plain(k), 3) + 0
 }
 
-function column(told, s, k, n,   word, c) {
-    if (told == "misfit") return misfit(s, k)
+function column(told, s, n,   word, c) {
+    if (told == "misfit") return misfit(s)
     if (told == "number") return 3
     split(s, word, " ")
     c = length(word[1]) + 2
@@ -113,9 +111,9 @@ function line_told(told, k,   n, s, c) {
     n = told == "qubit" ? qubits(k) : 0
     find_line(k, place)
     s = plain(k)
-    c = column(told, s, k, n)
-    return (role[k] == "LINE" ? "the line" : file(k) ", line " place) (c ? ", column " c : "") ", " \
-        (told == "misfit" && c > length(s) ? "at the end of " : "") quoted(k, section, from, to) \
+    c = column(told, s, n)
+    return file(k) ", line " place (c ? ", column " c : "") ", " \
+        (told == "misfit" && c > length(s) ? "at the end of " : "") quoted(k, "bytes", from, to) \
         (told == "qubit" ? ", qubits are 0 to " n - 1 : "") (told == "coin" ? ", with the " size[pick("COINS")] + 0 " coin(s) of " name(pick("COINS")) : "")
 }
 

@@ -1,4 +1,4 @@
-// Reads a line of a circuit text at a position: an operation line, which the check, the run and the patch share, or line 1.
+// Reads a line of a circuit text at a position: an operation line, which the check and the run share, or line 1.
 ghost use mathlib.Core.Path.{_≡_};
 ghost use mathlib.Core.List.{[], _∷_};
 ghost use Rattle.circuit.specs.Lines.{closed-by, end-byte};

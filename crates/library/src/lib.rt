@@ -1,12 +1,11 @@
 // The public face of the library: every function that a user calls, with the promise that he relies on. Nothing is required of any argument. Each promise cites
-// a definition in the words of document 01: `check-of` and `meaning` (crate circuit), `run-of` (run), `read-of` (records), `copy-of` and `same-of` (archive),
-// `patch-of` (patch) and `product-of` (product); `Writes`, `Runs` and `Hands` say what becomes of the answer, the coins and the lent bytes.
+// a definition in the words of document 01: `check-of` and `meaning` (crate circuit), `run-of` (run), `read-of` (records), `copy-of` and `same-of` (archive)
+// and `product-of` (product); `Writes`, `Runs` and `Hands` say what becomes of the answer, the coins and the lent bytes.
 ghost use mathlib.Core.Path.{_≡_};
 ghost use Rattle.answers.specs.Refusals.{Writes};
 ghost use Rattle.archive.specs.Copy.{copy-of};
 ghost use Rattle.archive.specs.Same.{same-of, told-same};
 ghost use Rattle.checking.specs.Check.{check-of, told-check};
-ghost use Rattle.patch.specs.Patch.{patch-of};
 ghost use Rattle.product.specs.Product.{product-of};
 ghost use Rattle.reading.specs.Answer.{Hands, Reads};
 ghost use Rattle.run.specs.Run.{Runs};
@@ -55,13 +54,6 @@ pub fn copy(bytes: &[u8], out: &mut [u8]) -> Written
     ensures { λ r. ⌜ Writes (copy-of (now (bytes .entry))) (now (out .entry)) r (now (out .exit)) ⌝ }
 {
     archive::copy(bytes, out)
-}
-
-// Applies one gate line to the rows of the last record and keeps its outcomes.
-pub fn patch(bytes: &[u8], line: &[u8], out: &mut [u8]) -> Written
-    ensures { λ r. ⌜ Writes (patch-of (now (bytes .entry)) (now (line .entry))) (now (out .entry)) r (now (out .exit)) ⌝ }
-{
-    patch::patch(bytes, line, out)
 }
 
 // Whether the last records of two lots of bytes describe the same state.

@@ -4,7 +4,6 @@ ghost use mathlib.Core.Path.{_≡_};
 ghost use Rattle.archive.specs.Copy.{copy-of};
 ghost use Rattle.archive.specs.Same.{same-of};
 ghost use Rattle.checking.specs.Check.{check-of};
-ghost use Rattle.patch.specs.Patch.{patch-of};
 ghost use Rattle.product.specs.Product.{product-of};
 ghost use Rattle.records.specs.Reading.{read-of};
 ghost use Rattle.senghovai.specs.Exports.{number-of, check-places, ExportsRun, read-places, ExportsWritten, same-number, same-places, write-places};
@@ -98,19 +97,6 @@ pub extern "C" fn senghovai_copy(bytes: &[u8], out: &mut [u8], answer: &mut [u64
     ensures { λ r. ⌜ ExportsWritten (copy-of (now (bytes .entry))) (now (out .entry)) r (now (answer .exit)) (now (out .exit)) ⌝ }
 {
     let w = library::copy(bytes, out);
-    tell(w, answer)
-}
-
-#[no_mangle]
-pub extern "C" fn senghovai_patch(
-    bytes: &[u8],
-    line: &[u8],
-    out: &mut [u8],
-    answer: &mut [u64; 2],
-) -> u64
-    ensures { λ r. ⌜ ExportsWritten (patch-of (now (bytes .entry)) (now (line .entry))) (now (out .entry)) r (now (answer .exit)) (now (out .exit)) ⌝ }
-{
-    let w = library::patch(bytes, line, out);
     tell(w, answer)
 }
 

@@ -102,17 +102,6 @@ pub fn within(n: usize, buf: &[u8]) -> usize
     if n < buf.len() { n } else { buf.len() }
 }
 
-// Puts an end byte behind the first n bytes, and answers how many there are with it; without room for it, none.
-pub fn with_end(line: &mut [u8], n: usize) -> usize
-    ensures { λ r. ⌜ Counts r (now (line .exit)) ⌝ }
-{
-    if n < line.len() {
-        line[n] = b'\n';
-        return n + 1;
-    }
-    0
-}
-
 pub fn say(text: &[u8]) {
     io::write_all(STDOUT_FILENO, text);
 }

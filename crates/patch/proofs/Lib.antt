@@ -1,3 +1,0 @@
-pub mod GateLines
-pub mod Patching
-pub mod Room

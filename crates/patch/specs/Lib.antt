@@ -1,2 +1,0 @@
-pub mod Patch
-pub mod parts
