@@ -59,7 +59,7 @@ int agree_same(const u8 *first, u64 first_len, const u8 *second, u64 second_len)
 
 static u64 damage_text(u8 *text, u64 length)
 {
-    static const char bytes[] = "HSXYZCQM0123456789 \n-h";
+    static const char bytes[] = "HSXYZCQMR0123456789 \n-h";
     u64 at = draw(draw(4) ? length : 5), kind = draw(4);
     if (kind == 0)
         return at;
@@ -81,10 +81,25 @@ static u64 damage_text(u8 *text, u64 length)
 static u64 add_line(u8 *text, u64 length)
 {
     static const char *const lines[] = { "CX 0 0\n", "CZ 0 0\n", "CX 64 64\n", "H 99\n", "M 100\n",
-                                         "CX 0 1000\n", "H 0", "C", "\n", "S 00\n", "Q 1\n" };
+                                         "CX 0 1000\n", "H 0", "C", "\n", "S 00\n", "Q 1\n", "MR 64\n",
+                                         "MR\n", "MR 0", "M", "MR", "MRR 0\n", "R 0\n", "HR 0\n" };
     for (const char *from = lines[draw(sizeof lines / sizeof *lines)]; *from; from++)
         text[length++] = (u8)*from;
     return length;
+}
+
+/* Every other measurement, as drawn, becomes MR. */
+static u64 add_resets(u8 *text, u64 length)
+{
+    static u8 from[MOST_TEXT];
+    u64 to = 0;
+    memcpy(from, text, length);
+    for (u64 i = 0; i < length; i++) {
+        text[to++] = from[i];
+        if (from[i] == 'M' && draw(2))
+            text[to++] = 'R';
+    }
+    return to;
 }
 
 static u64 draw_qubits(void)
@@ -101,6 +116,8 @@ static u64 make_text(u8 *text)
     if (n < 1 || n > MOST_QUBITS)
         return make_hadamards(text, n, 0);
     u64 length = draw(3) ? make_mixed(text, n, ops, draw(8)) : make_alternate(text, n, ops);
+    if (draw(2))
+        length = add_resets(text, length);
     u64 harm = draw(8);
     return harm < 2 ? damage_text(text, length) : harm == 2 ? add_line(text, length) : length;
 }

@@ -154,7 +154,8 @@ static u64 gates(u8 *to, u64 n) { return make_mixed(to, n, MOST_OPS, 0); }
 static u64 hadamards(u8 *to, u64 n) { return make_hadamards(to, n, MOST_OPS); }
 static u64 mixed(u8 *to, u64 n) { return make_mixed(to, n, MOST_OPS, 4); }
 static u64 alternate(u8 *to, u64 n) { return make_alternate(to, n, MOST_OPS); }
-static u64 surface(u8 *to, u64 n) { return (void)n, make_surface(to); }
+static u64 surface(u8 *to, u64 n) { return (void)n, make_surface(to, "M"); }
+static u64 surface_reset(u8 *to, u64 n) { return (void)n, make_surface(to, "MR"); }
 
 static Workload work;
 
@@ -194,6 +195,7 @@ static int table(double limit)
         { "gates and measurements mixed", DO_RUN, mixed, 1 },
         { "a measurement after every gate", DO_RUN, alternate, 1 },
         { "surface patch, distance 5, 32 rounds", DO_RUN, surface, 1 },
+        { "surface patch with MR, distance 5, 32 rounds", DO_RUN, surface_reset, 1 },
         { "check of the mixed text", DO_CHECK, mixed, 0.5 },
         { "reading a longest record", DO_READ, 0, 1 },
         { "comparing two longest records", DO_SAME, 0, 1 },

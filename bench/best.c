@@ -138,6 +138,9 @@ static inline int measure(Tableau *t, u64 n, u64 a, Log *log)
     return 1;
 }
 
+/* X on a where the value is 1, with no jump, which the processor could not guess. */
+static inline void turn_if(Tableau *t, u64 a, u64 value) { t->minus ^= t->column[a].w[1] & (0 - value); }
+
 /* Runs as far as text and coins go: the number of operations done, all of them or fewer. */
 static u64 run_text(Tableau *t, Scan *s, Log *log)
 {
@@ -150,10 +153,12 @@ static u64 run_text(Tableau *t, Scan *s, Log *log)
                 break;
             gate_two(t, second == 'X', a, b);
         } else if (c == 'M') {
-            if (!take_one(s, &a) || !measure(t, s->n, a, log))
+            u64 reset = is_reset(s);
+            if (!take_one(s, reset, &a) || !measure(t, s->n, a, log))
                 break;
+            turn_if(t, a, reset & log->outcomes[log->measured - 1]);
         } else {
-            if ((c >> 5 != 2) | !m->known || !take_one(s, &a))
+            if ((c >> 5 != 2) | !m->known || !take_one(s, 0, &a))
                 break;
             gate_one(t, m, a);
         }

@@ -57,14 +57,19 @@ static inline u64 take_number(const u8 *p, u64 n, u8 stop, u64 *wide, u64 *bad)
     return value;
 }
 
-/* Takes `H a` or its like: 0 when the line has to be refused, else a is set. */
-static inline int take_one(Scan *s, u64 *a)
+/* Whether the line, of which the first letter M has been seen, is MR. */
+static inline u64 is_reset(const Scan *s) { return s->at[1] == 'R'; }
+
+/* Takes `H a` or its like, or `MR a`, whose name is 1 longer: 0 when the line has to be refused, else
+   a is set. */
+static inline int take_one(Scan *s, u64 longer, u64 *a)
 {
-    u64 wide, bad = s->at[1] != ' ';
-    *a = take_number(s->at + 2, s->n, '\n', &wide, &bad);
+    const u8 *behind = s->at + 1 + longer;
+    u64 wide, bad = *behind != ' ';
+    *a = take_number(behind + 1, s->n, '\n', &wide, &bad);
     if (bad)
         return 0;
-    s->at += 4 + wide;
+    s->at = behind + 3 + wide;
     return 1;
 }
 

@@ -54,6 +54,8 @@ u64 best_refusal(const Scan *s)
              : kind != 'H' && kind != 'S' && kind != 'M' && kind - 'X' >= 3u)
         return 3;
     at++;
+    if (kind == 'M' && at < end && *at == 'R')
+        at++;
     if (!careful_byte(&at, end, ' '))
         return 3;
     u64 a = careful_number(&at, end);
@@ -82,7 +84,7 @@ Verdict best_verdict(const u8 *text, u64 length)
         v.place = v.ops + 2;
         if (v.ops == MOST_OPS)
             v.number = 6;
-        else if (!(c == 'C' ? take_two(&s, &a, &b) : single(c) && take_one(&s, &a)))
+        else if (!(c == 'C' ? take_two(&s, &a, &b) : single(c) && take_one(&s, (c == 'M') & is_reset(&s), &a)))
             v.number = best_refusal(&s);
         v.ops++;
         v.measured += c == 'M';

@@ -175,26 +175,37 @@ static void gate(State *q, Op op)
     }
 }
 
-/* Runs the circuit and writes the outcomes; answers the line that found no coin, or 0. */
+/* Measures a, with the next coin where that is random, and answers the outcome's character; 0 where
+   no coin is left. */
+static u8 measure(State *q, int a, const u8 *coins, u64 coins_len, u64 *taken)
+{
+    int p = first_stabilizer(q, a);
+    if (p < 0)
+        return (u8)('0' + measure_fixed(q, a));
+    if (*taken == coins_len)
+        return 0;
+    int coin = coins[(*taken)++] & 1;
+    measure_random(q, a, p, coin);
+    return (u8)('2' + coin);
+}
+
+/* Runs the circuit and writes the outcomes; answers the line that found no coin, or 0. MR is M, and
+   X where the outcome was 1. */
 static int run_all(State *q, const Circuit *c, const u8 *coins, u64 coins_len, u8 *outcomes, u64 *taken)
 {
     start(q, c->n);
     for (int i = 0; i < c->count; i++) {
         Op op = c->ops[i];
-        if (op.kind != 'M') {
+        if (!measures(op.kind)) {
             gate(q, op);
             continue;
         }
-        int p = first_stabilizer(q, op.a);
-        if (p < 0) {
-            *outcomes++ = (u8)('0' + measure_fixed(q, op.a));
-            continue;
-        }
-        if (*taken == coins_len)
+        u8 outcome = measure(q, op.a, coins, coins_len, taken);
+        if (!outcome)
             return i + 2;
-        int coin = coins[(*taken)++] & 1;
-        measure_random(q, op.a, p, coin);
-        *outcomes++ = (u8)('2' + coin);
+        if (op.kind == 'R' && outcome & 1)
+            pauli(q, 'X', op.a);
+        *outcomes++ = outcome;
     }
     return 0;
 }

@@ -31,9 +31,11 @@ static int take_number(Reader *r)
 
 static char take_kind(Reader *r)
 {
-    static const char singles[] = "HSXYZM";
+    static const char singles[] = "HSXYZ";
     if (take(r, 'C'))
         return take(r, 'X') ? 'c' : take(r, 'Z') ? 'z' : 0;
+    if (take(r, 'M'))
+        return take(r, 'R') ? 'R' : 'M';
     for (int k = 0; singles[k]; k++)
         if (take(r, (u8)singles[k]))
             return singles[k];
@@ -79,7 +81,7 @@ u64 rows_parse(Circuit *c, const u8 *text, u64 length, u64 *place)
         u64 number = take_line(&r, c->n, &c->ops[c->count]);
         if (number)
             return number;
-        c->measured += c->ops[c->count++].kind == 'M';
+        c->measured += measures(c->ops[c->count++].kind);
     }
     *place = 0;
     return 0;

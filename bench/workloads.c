@@ -112,7 +112,7 @@ static u8 *put_each(u8 *at, const Check checks[CHECKS], const char *kind, int on
     return at;
 }
 
-u64 make_surface(u8 *to)
+u64 make_surface(u8 *to, const char *measure)
 {
     Check checks[CHECKS];
     place_checks(checks);
@@ -126,7 +126,7 @@ u64 make_surface(u8 *to)
                     at = checks[k].is_x ? put_line(at, "CX", DATA + k, (u64)d) : put_line(at, "CX", (u64)d, DATA + k);
             }
         at = put_each(at, checks, "H", 1);
-        at = put_each(at, checks, "M", 0);
+        at = put_each(at, checks, measure, 0);
     }
     return (u64)(at - to);
 }
