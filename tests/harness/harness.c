@@ -2,8 +2,8 @@
    can hold the library to its own answers. A case is a verb and its arguments, words apart by
    single spaces, byte strings in lower-case hexadecimal, `-` for the empty one:
 
-     check CIRCUIT          run CIRCUIT COINS LEN          read BYTES          copy BYTES LEN
-     patch BYTES LINE LEN   product FIRST SECOND LEN       same FIRST SECOND
+     check CIRCUIT     run CIRCUIT COINS LEN       read BYTES
+     copy BYTES LEN    product FIRST SECOND LEN    same FIRST SECOND
 
    LEN is the length of the lent buffer, whose byte i holds (7*i+3) mod 256 before the call. The
    answer is the returned number, each place of `answer` in decimal (a place not written shows as
@@ -97,7 +97,6 @@ static u64 call_check(Lent *lent, u64 *answer) { return senghovai_check(IN(0), a
 static u64 call_run(Lent *lent, u64 *answer) { return senghovai_run(IN(0), IN(1), IN(2), answer); }
 static u64 call_read(Lent *lent, u64 *answer) { return senghovai_read(IN(0), answer); }
 static u64 call_copy(Lent *lent, u64 *answer) { return senghovai_copy(IN(0), IN(1), answer); }
-static u64 call_patch(Lent *lent, u64 *answer) { return senghovai_patch(IN(0), IN(1), IN(2), answer); }
 static u64 call_product(Lent *lent, u64 *answer) { return senghovai_product(IN(0), IN(1), IN(2), answer); }
 static u64 call_same(Lent *lent, u64 *answer) { return senghovai_same(IN(0), IN(1), answer); }
 
@@ -112,7 +111,6 @@ static const Verb verbs[] = {
     { "run", 2, 1, 6, call_run },
     { "read", 1, 0, 5, call_read },
     { "copy", 1, 1, 2, call_copy },
-    { "patch", 2, 1, 2, call_patch },
     { "product", 2, 1, 2, call_product },
     { "same", 2, 0, 3, call_same },
 };

@@ -1,10 +1,10 @@
-//! The seven public functions. Each answers a number, 0 or the refusal's, a
+//! The six public functions. Each answers a number, 0 or the refusal's, a
 //! fixed list of places, and, where a buffer is lent, all its bytes after
 //! the call.
 
-use crate::circuit::{self, Operation};
+use crate::circuit;
 use crate::measure;
-use crate::record::{self, Record};
+use crate::record;
 use crate::refusal::Refusal;
 use crate::row::Row;
 
@@ -100,29 +100,6 @@ fn try_copy(bytes: &[u8], lent: usize) -> Result<Vec<u8>, Refusal> {
 
 pub fn copy(bytes: &[u8], out: Vec<u8>) -> Answer {
     written(try_copy(bytes, out.len()), out)
-}
-
-/// The one gate line of a patch: not `M`, and nothing after its end byte.
-fn patch_line(line: &[u8], n: usize) -> Result<Operation, Refusal> {
-    let all = circuit::lines(line);
-    if all.len() != 1 {
-        return Err(Refusal::at(3, 1));
-    }
-    if let Some(Operation::M(_)) = circuit::written(&all[0]) {
-        return Err(Refusal::at(3, 1));
-    }
-    circuit::operation(&all[0], n, 1)
-}
-
-fn try_patch(bytes: &[u8], line: &[u8], lent: usize) -> Result<Vec<u8>, Refusal> {
-    let found: Record = record::read(bytes)?;
-    let gate = patch_line(line, found.tableau.n)?;
-    fits(found.length, lent)?;
-    Ok(record::write(&found.outcomes, &found.tableau.gate(gate)))
-}
-
-pub fn patch(bytes: &[u8], line: &[u8], out: Vec<u8>) -> Answer {
-    written(try_patch(bytes, line, out.len()), out)
 }
 
 fn try_product(first: &[u8], second: &[u8], lent: usize) -> Result<Vec<u8>, Refusal> {

@@ -1,4 +1,4 @@
-//! The random cases: a mix of all seven functions over the material of
+//! The random cases: a mix of all six functions over the material of
 //! `make` and `damage`. The same seed gives the same cases.
 
 use crate::circuit;
@@ -64,51 +64,14 @@ fn some_record(random: &mut Random, damaged: usize) -> Vec<u8> {
     }
 }
 
-fn record_length(bytes: &[u8]) -> usize {
-    match record::read(bytes) {
-        Ok(found) => found.length,
-        Err(_) => bytes.len(),
-    }
-}
-
 fn copy(random: &mut Random) -> Case {
     let bytes = some_record(random, 30);
-    let length = buffer(random, record_length(&bytes));
+    let needed = match record::read(&bytes) {
+        Ok(found) => found.length,
+        Err(_) => bytes.len(),
+    };
+    let length = buffer(random, needed);
     Case::Copy(bytes, length)
-}
-
-fn patch_line(random: &mut Random, n: usize) -> Vec<u8> {
-    let mut line = make::operation_text(make::gate(random, n)).into_bytes();
-    match random.below(20) {
-        0 => line = random.one_of(&damage::MALFORMED).as_bytes().to_vec(),
-        1 => line = [random.one_of(&damage::MALFORMED).as_bytes(), b"\n"].concat(),
-        2 => line = format!("M {}\n", random.below(2 * n)).into_bytes(),
-        3 => {
-            let far = n + random.below(3);
-            let near = random.below(n);
-            line =
-                format!("CX {far} {}\n", if random.chance(50) { far } else { near }).into_bytes();
-        }
-        4 => {
-            let near = random.below(n);
-            line = format!("CZ {near} {near}\n").into_bytes();
-        }
-        5 => {
-            line.pop();
-        }
-        6 => line.push(random.byte()),
-        7 => damage::one_byte(random, &mut line),
-        _ => {}
-    }
-    line
-}
-
-fn patch(random: &mut Random) -> Case {
-    let bytes = some_record(random, 20);
-    let n = record::read(&bytes).map_or(1, |found| found.tableau.n);
-    let line = patch_line(random, n);
-    let length = buffer(random, record_length(&bytes));
-    Case::Patch(bytes, line, length)
 }
 
 /// A row text, sometimes with a byte that is not listed.
@@ -165,12 +128,11 @@ fn same(random: &mut Random) -> Case {
 
 pub fn case(random: &mut Random) -> Case {
     match random.below(100) {
-        0..=11 => Case::Check(some_circuit(random, 60)),
-        12..=51 => run(random),
-        52..=63 => Case::Read(some_record(random, 50)),
-        64..=70 => copy(random),
-        71..=81 => patch(random),
-        82..=92 => product(random),
+        0..=12 => Case::Check(some_circuit(random, 60)),
+        13..=57 => run(random),
+        58..=70 => Case::Read(some_record(random, 50)),
+        71..=79 => copy(random),
+        80..=91 => product(random),
         _ => same(random),
     }
 }

@@ -1,5 +1,6 @@
 //! The circuit text: its lines, their words and numbers, and the refusals 1
-//! to 6 in the order document 01 gives.
+//! to 6 in the order document 01 gives. The ninth operation, `MR a`, is that
+//! of document 02, request b.
 
 use crate::refusal::Refusal;
 
@@ -16,6 +17,7 @@ pub enum Operation {
     CX(usize, usize),
     CZ(usize, usize),
     M(usize),
+    MR(usize),
 }
 
 pub struct Circuit {
@@ -25,18 +27,17 @@ pub struct Circuit {
 
 impl Circuit {
     pub fn measurements(&self) -> usize {
-        let is_m = |operation: &&Operation| matches!(operation, Operation::M(_));
-        self.operations.iter().filter(is_m).count()
+        self.operations.iter().filter_map(|operation| measured(*operation)).count()
     }
 }
 
 /// One line without its end byte, and whether the end byte was there.
-pub struct Line<'a> {
-    pub bytes: &'a [u8],
-    pub ended: bool,
+struct Line<'a> {
+    bytes: &'a [u8],
+    ended: bool,
 }
 
-pub fn lines(text: &[u8]) -> Vec<Line<'_>> {
+fn lines(text: &[u8]) -> Vec<Line<'_>> {
     let mut found = Vec::new();
     let mut start = 0;
     for (place, byte) in text.iter().enumerate() {
@@ -86,7 +87,7 @@ fn first_line(line: Option<&Line>) -> Result<usize, Refusal> {
 }
 
 /// The operation a line writes, whatever its qubits are.
-pub fn written(line: &Line) -> Option<Operation> {
+fn written(line: &Line) -> Option<Operation> {
     if !line.ended {
         return None;
     }
@@ -104,21 +105,31 @@ pub fn written(line: &Line) -> Option<Operation> {
         (b"CX", [a, b]) => Some(Operation::CX(*a, *b)),
         (b"CZ", [a, b]) => Some(Operation::CZ(*a, *b)),
         (b"M", [a]) => Some(Operation::M(*a)),
+        (b"MR", [a]) => Some(Operation::MR(*a)),
         _ => None,
     }
 }
 
 /// The qubits an operation names.
-pub fn qubits(operation: Operation) -> Vec<usize> {
+fn qubits(operation: Operation) -> Vec<usize> {
     match operation {
-        Operation::H(a) | Operation::S(a) | Operation::M(a) => vec![a],
+        Operation::H(a) | Operation::S(a) => vec![a],
         Operation::X(a) | Operation::Y(a) | Operation::Z(a) => vec![a],
         Operation::CX(a, b) | Operation::CZ(a, b) => vec![a, b],
+        Operation::M(a) | Operation::MR(a) => vec![a],
+    }
+}
+
+/// The qubit an operation measures, if it measures one.
+pub fn measured(operation: Operation) -> Option<usize> {
+    match operation {
+        Operation::M(a) | Operation::MR(a) => Some(a),
+        _ => None,
     }
 }
 
 /// A line by the refusals 3, 4, 5.
-pub fn operation(line: &Line, n: usize, place: usize) -> Result<Operation, Refusal> {
+fn operation(line: &Line, n: usize, place: usize) -> Result<Operation, Refusal> {
     let Some(operation) = written(line) else {
         return Err(Refusal::at(3, place));
     };

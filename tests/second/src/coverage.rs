@@ -1,22 +1,23 @@
 //! What a list of cases covers: how often each function was called, each
-//! refusal number answered, each gate run, each kind of measurement met, and
-//! each of n = 1, 63, 64 accepted; and how often two rows were multiplied
-//! whose powers of i sum to less than zero, where a remainder with a sign
-//! would go wrong. Says what is lacking.
+//! refusal number answered, each operation run, each kind of measurement met,
+//! of M and of MR, and each of n = 1, 63, 64 accepted; how often a qubit was
+//! measured again after an MR; and how often two rows were multiplied whose
+//! powers of i sum to less than zero, where a remainder with a sign would go
+//! wrong. Says what is lacking.
 
 use crate::answers::Answer;
-use crate::circuit::{self, Operation};
-use crate::measure::is_one;
+use crate::circuit::{self, measured, Operation};
 use crate::protocol::Case;
 use crate::row::Row;
 use crate::tableau::Tableau;
-use std::collections::BTreeMap;
-use std::slice::Iter;
+use std::collections::{BTreeMap, BTreeSet};
 
 const LEAST: u64 = 20;
-const FUNCTIONS: [&str; 7] = ["check", "run", "read", "copy", "patch", "product", "same"];
-const RAN: [&str; 8] = ["H", "S", "X", "Y", "Z", "CX", "CZ", "M"];
-const MEASURED: [&str; 4] = ["fixed 0", "fixed 1", "random 0", "random 1"];
+const FUNCTIONS: [&str; 6] = ["check", "run", "read", "copy", "product", "same"];
+const RAN: [&str; 9] = ["H", "S", "X", "Y", "Z", "CX", "CZ", "M", "MR"];
+const MEASURED: [&str; 4] = ["M fixed 0", "M fixed 1", "M random 0", "M random 1"];
+const RESET: [&str; 4] = ["MR fixed 0", "MR fixed 1", "MR random 0", "MR random 1"];
+const AGAIN: [&str; 2] = ["M after MR", "MR after MR"];
 const SUMS: [&str; 2] = ["below zero", "below zero and a minus"];
 const SIZES: [&str; 3] = ["n = 1", "n = 63", "n = 64"];
 
@@ -37,6 +38,7 @@ fn name(operation: Operation) -> &'static str {
         Operation::CX(..) => "CX",
         Operation::CZ(..) => "CZ",
         Operation::M(_) => "M",
+        Operation::MR(_) => "MR",
     }
 }
 
@@ -54,10 +56,7 @@ impl Coverage {
             return;
         }
         match case {
-            Case::Run(text, coins, _) => {
-                self.count_outcomes(&answer);
-                self.count_run(text, coins);
-            }
+            Case::Run(text, ..) => self.count_run(text, &answer),
             Case::Product(first, second, _) => {
                 if let (Ok(one), Ok(two)) = (Row::from_text(first), Row::from_text(second)) {
                     self.count_sum(one.power_sum(&two));
@@ -68,41 +67,56 @@ impl Coverage {
         }
     }
 
-    fn count_outcomes(&mut self, answer: &Answer) {
-        let measured = answer.places[3] as usize;
-        if let Some(record) = &answer.buffer {
-            for outcome in &record[..measured] {
-                self.add(MEASURED[(outcome - b'0') as usize], 1);
+    fn count_run(&mut self, text: &[u8], answer: &Answer) {
+        let (Ok(circuit), Some(record)) = (circuit::parse(text), &answer.buffer) else {
+            return;
+        };
+        self.add(&format!("n = {}", circuit.n), 1);
+        self.count_again(&circuit.operations);
+        let mut tableau = Tableau::start(circuit.n);
+        let mut outcomes = record.iter();
+        for operation in circuit.operations {
+            self.add(name(operation), 1);
+            tableau = match measured(operation) {
+                None => tableau.gate(operation),
+                Some(a) => match outcomes.next() {
+                    Some(outcome) => self.measure(tableau, operation, a, *outcome),
+                    None => return,
+                },
+            };
+        }
+    }
+
+    fn count_again(&mut self, operations: &[Operation]) {
+        let mut before = BTreeSet::new();
+        for operation in operations {
+            match operation {
+                Operation::M(a) if before.contains(a) => self.add(AGAIN[0], 1),
+                Operation::MR(a) if !before.insert(*a) => self.add(AGAIN[1], 1),
+                _ => {}
             }
         }
     }
 
-    fn count_run(&mut self, text: &[u8], coins: &[u8]) {
-        let Ok(circuit) = circuit::parse(text) else {
-            return;
-        };
-        self.add(&format!("n = {}", circuit.n), 1);
-        let mut tableau = Tableau::start(circuit.n);
-        let mut coins = coins.iter();
-        for operation in circuit.operations {
-            self.add(name(operation), 1);
-            tableau = self.step(tableau, operation, &mut coins);
+    /// A measurement of a with its outcome, its kind and its products counted.
+    fn measure(
+        &mut self,
+        mut tableau: Tableau,
+        operation: Operation,
+        a: usize,
+        outcome: u8,
+    ) -> Tableau {
+        let kind = (outcome - b'0') as usize;
+        let value = kind % 2 == 1;
+        let kinds = if operation == Operation::MR(a) { RESET } else { MEASURED };
+        self.add(kinds[kind], 1);
+        if let Some(p) = tableau.random_row(a) {
+            for row in tableau.multiplied(a, p) {
+                self.count_sum(tableau.rows[row].power_sum(&tableau.rows[p]));
+            }
+            tableau = tableau.collapse(a, p, value);
         }
-    }
-
-    /// One operation, its products counted.
-    fn step(&mut self, before: Tableau, operation: Operation, coins: &mut Iter<u8>) -> Tableau {
-        let Operation::M(a) = operation else {
-            return before.gate(operation);
-        };
-        let Some(p) = before.random_row(a) else {
-            return before;
-        };
-        for row in before.multiplied(a, p) {
-            self.count_sum(before.rows[row].power_sum(&before.rows[p]));
-        }
-        let coin = coins.next().is_some_and(|coin| is_one(*coin));
-        before.collapse(a, p, coin)
+        tableau.reset(operation, value)
     }
 
     fn count_sum(&mut self, sum: i32) {
@@ -140,6 +154,8 @@ impl Coverage {
         table.push('\n');
         table.push_str(&self.line("operations", &RAN));
         table.push_str(&self.line("measured", &MEASURED));
+        table.push_str(&self.line("reset", &RESET));
+        table.push_str(&self.line("again", &AGAIN));
         table.push_str(&self.line("power sums", &SUMS));
         table.push_str(&self.line("sizes", &SIZES));
         table
@@ -152,9 +168,12 @@ impl Coverage {
                 lacking.push(format!("refusal {number}, {} times", self.refused(number)));
             }
         }
-        for name in SUMS {
-            if self.times(name) < LEAST {
-                lacking.push(format!("power sums {name}, {} times", self.times(name)));
+        let often = [("power sums", &SUMS[..]), ("reset", &RESET), ("again", &AGAIN)];
+        for (title, names) in often {
+            for name in names {
+                if self.times(name) < LEAST {
+                    lacking.push(format!("{title} {name}, {} times", self.times(name)));
+                }
             }
         }
         for names in [&FUNCTIONS[..], &RAN[..], &MEASURED[..], &SIZES[..]] {

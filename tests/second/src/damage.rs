@@ -15,10 +15,11 @@ pub const BAD_FIRST: [&str; 18] = [
 
 pub const BAD_COUNT: [&str; 6] = ["Q 0", "Q 65", "Q 66", "Q 100", "Q 128", "Q 999"];
 
-pub const MALFORMED: [&str; 30] = [
+pub const MALFORMED: [&str; 44] = [
     "", " ", "H", "H ", "H  0", "H 0 ", " H 0", "h 0", "H 00", "H 0 0", "H 1000", "H +0", "H -0",
     "H 0\r", "H\t0", "T 0", "CX 0", "CX 0 1 2", "CX 0  1", "CX 0 01", "cx 0 1", "CY 0 1",
-    "CXX 0 1", "C 0 1", "M", "M 0 1", "M 00", "Q 2", "H x", "CZ 1 0 ",
+    "CXX 0 1", "C 0 1", "M", "M 0 1", "M 00", "Q 2", "H x", "CZ 1 0 ", "M0", "MR", "MR ", "MR0",
+    "MR  0", "MR 0 ", "MR 00", "MR 0 1", "MRR 0", "M R 0", "MR 1000", "mr 0", "R 0", "RM 0",
 ];
 
 /// The lines of a text, without their end bytes.
@@ -52,20 +53,21 @@ fn some_place(random: &mut Random, count: usize) -> usize {
 fn bad_qubit(random: &mut Random, n: usize) -> String {
     let far = *random.one_of(&[n, n + 1, 64, 99, 100, 999]).max(&n);
     let near = random.below(n);
-    match random.below(8) {
+    match random.below(9) {
         0 => format!("H {far}"),
         1 => format!("M {far}"),
-        2 => format!("CX {far} {near}"),
-        3 => format!("CZ {near} {far}"),
-        4 => format!("CX {far} {far}"),
-        5 => format!("CZ {far} {far}"),
-        6 => format!("CX {near} {near}"),
+        2 => format!("MR {far}"),
+        3 => format!("CX {far} {near}"),
+        4 => format!("CZ {near} {far}"),
+        5 => format!("CX {far} {far}"),
+        6 => format!("CZ {far} {far}"),
+        7 => format!("CX {near} {near}"),
         _ => format!("CZ {near} {near}"),
     }
 }
 
 /// One byte replaced, put in or taken out.
-pub fn one_byte(random: &mut Random, bytes: &mut Vec<u8>) {
+fn one_byte(random: &mut Random, bytes: &mut Vec<u8>) {
     if bytes.is_empty() {
         return bytes.push(random.byte());
     }

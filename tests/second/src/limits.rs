@@ -3,7 +3,7 @@
 //! buffers around the needed length, and runs that lack a coin early, midway
 //! and at the end, or before a line that is refused.
 
-use crate::circuit::{Operation, MOST_OPERATIONS};
+use crate::circuit::{measured, Operation, MOST_OPERATIONS};
 use crate::damage;
 use crate::make;
 use crate::protocol::Case;
@@ -30,10 +30,9 @@ fn every_n(write: Write) -> io::Result<()> {
     for n in 1..=64 {
         let operations = make::operations(&mut random, n, 8 * n + 8, 20);
         let text = make::text(n, &operations);
-        let is_m = |operation: &&Operation| matches!(operation, Operation::M(_));
-        let measured = operations.iter().filter(is_m).count();
-        let needed = record::distance_to_rows(n) + measured;
-        let coins = random.bytes(measured + 1);
+        let outcomes = operations.iter().filter_map(|operation| measured(*operation)).count();
+        let needed = record::distance_to_rows(n) + outcomes;
+        let coins = random.bytes(outcomes + 1);
         for lent in [needed - 1, needed, needed + 3] {
             write(Case::Run(text.clone(), coins.clone(), lent))?;
         }
@@ -44,8 +43,6 @@ fn every_n(write: Write) -> io::Result<()> {
         write(Case::Read([plain.clone(), shuffled.clone()].concat()))?;
         write(Case::Copy(shuffled.clone(), shuffled.len()))?;
         write(Case::Copy(plain.clone(), plain.len() - 1))?;
-        let line = make::operation_text(make::gate(&mut random, n)).into_bytes();
-        write(Case::Patch(shuffled.clone(), line, shuffled.len() + 1))?;
         write(Case::Same(plain, shuffled))?;
         damage::pairing(&mut random, &mut tableau);
         write(Case::Read(record::write(b"", &tableau)))?;
@@ -65,9 +62,12 @@ fn most_operations(write: Write) -> io::Result<()> {
         cut.pop();
         write(Case::Check(cut))?;
     }
-    let measured = ["Q 64\n".to_string(), "M 63\n".repeat(MOST_OPERATIONS)].concat();
-    write(Case::Run(measured.clone().into_bytes(), vec![], 12_428))?;
-    write(Case::Run(measured.into_bytes(), vec![], 12_427))
+    for line in ["M 63\n", "MR 63\n"] {
+        let text = ["Q 64\n".to_string(), line.repeat(MOST_OPERATIONS)].concat();
+        write(Case::Run(text.clone().into_bytes(), vec![], 12_428))?;
+        write(Case::Run(text.into_bytes(), vec![], 12_427))?;
+    }
+    Ok(())
 }
 
 /// Bytes of all sorts after the 4,096th operation, and a bad line before.
@@ -78,10 +78,10 @@ fn too_many_operations(write: Write) -> io::Result<()> {
         write(Case::Check(text.clone()))?;
         write(Case::Run(text, vec![1], 0))?;
     }
-    for line in ["H 0\n", "M 0\n", "H 9\n", "CX 0 0\n", "h\n", "H 0", "H 0\nH 0\n"] {
+    for line in ["H 0\n", "M 0\n", "MR 0\n", "H 9\n", "CX 0 0\n", "h\n", "H 0", "H 0\nH 0\n"] {
         write(Case::Check([most.as_bytes(), line.as_bytes()].concat()))?;
     }
-    for line in ["H 1\n", "CX 0 0\n", "h 0\n"] {
+    for line in ["H 1\n", "MR 1\n", "CX 0 0\n", "h 0\n"] {
         let bad = "Q 1\n".to_string() + &"S 0\n".repeat(MOST_OPERATIONS - 1) + line;
         write(Case::Check(bad.clone().into_bytes()))?;
         write(Case::Check((bad + "H 0\n").into_bytes()))?;
@@ -132,32 +132,43 @@ fn long_archive(write: Write) -> io::Result<()> {
     write(Case::Copy(bytes, sound.len() + 1))
 }
 
+/// Eight random measurements, each followed by a fixed one of its qubit.
+fn eight_coins(random: &mut Random, n: usize, first: fn(usize) -> Operation) -> Vec<u8> {
+    let mut operations = Vec::new();
+    for _ in 0..8 {
+        let a = random.below(n);
+        operations.extend([Operation::H(a), first(a), Operation::S(a), Operation::M(a)]);
+    }
+    make::text(n, &operations)
+}
+
 fn lacking_coins(write: Write) -> io::Result<()> {
     let mut random = Random::new(7);
     for n in [1, 2, 5, 63, 64] {
-        let mut operations = Vec::new();
-        for _ in 0..8 {
-            let a = random.below(n);
-            operations.extend([Operation::H(a), Operation::M(a), Operation::S(a), Operation::M(a)]);
-        }
-        for coins in [0, 1, 3, 4, 7, 8, 9] {
-            let coins = random.bytes(coins);
-            let needed = record::distance_to_rows(n) + 16;
-            write(Case::Run(make::text(n, &operations), coins.clone(), needed))?;
-            write(Case::Run(make::text(n, &operations), coins, needed - 1))?;
+        for first in [Operation::M, Operation::MR] {
+            let text = eight_coins(&mut random, n, first);
+            for coins in [0, 1, 3, 4, 7, 8, 9] {
+                let coins = random.bytes(coins);
+                let needed = record::distance_to_rows(n) + 16;
+                write(Case::Run(text.clone(), coins.clone(), needed))?;
+                write(Case::Run(text.clone(), coins, needed - 1))?;
+            }
         }
     }
     Ok(())
 }
 
-/// A measurement without a coin, and behind it lines that are refused, or too many, or a buffer that is too short.
+/// A measurement without a coin, and behind it lines that are refused, or
+/// too many, or a buffer that is too short.
 fn refused_without_coins(write: Write) -> io::Result<()> {
-    let dry = "Q 2\nH 0\nM 0\n".to_string();
     let most = "H 1\n".repeat(MOST_OPERATIONS - 2);
-    let lines = ["", "H 1\n", "M 1\n", "H 2\n", "CX 1 1\n", "h 0\n", "H 0", &most, &(most.clone() + "H 1\n"), &(most.clone() + "h")];
-    for line in lines {
-        for lent in [0, 24, 25, 26] {
-            write(Case::Run((dry.clone() + line).into_bytes(), vec![], lent))?;
+    let (more, bad) = (most.clone() + "H 1\n", most.clone() + "h");
+    let few = ["", "H 1\n", "M 1\n", "MR 1\n", "H 2\n", "MR 2\n", "CX 1 1\n", "h 0\n", "H 0"];
+    for dry in ["Q 2\nH 0\nM 0\n", "Q 2\nH 0\nMR 0\n"] {
+        for lines in few.into_iter().chain([&most[..], &more, &bad]) {
+            for lent in [0, 24, 25, 26] {
+                write(Case::Run((dry.to_string() + lines).into_bytes(), vec![], lent))?;
+            }
         }
     }
     Ok(())

@@ -1,7 +1,7 @@
 //! The second program: everything the library answers, written once more
-//! from document 01 alone, letter by letter. It makes cases for a comparison,
-//! answers them, counts what they cover, checks itself against a state
-//! vector, and prints what `shot` prints.
+//! from the documents alone, letter by letter. It makes cases for a
+//! comparison, answers them, counts what they cover, checks itself against a
+//! state vector, and prints what `shot` prints.
 
 mod answers;
 mod cases;
@@ -36,7 +36,7 @@ second coverage              read cases, print what they cover
 second differ CASES A B      compare its answers A to CASES with the answers B
 second state SEED COUNT      run COUNT random circuits beside a state vector
 second shot                  read the input of `shot`, print what it prints
-second selftest              run the examples of document 01
+second selftest              run the examples of the documents
 ";
 
 fn write_cases(seed: u64, count: u64) -> io::Result<bool> {

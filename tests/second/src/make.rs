@@ -22,7 +22,7 @@ pub fn qubits(random: &mut Random) -> usize {
     }
 }
 
-pub fn operation_text(operation: Operation) -> String {
+fn operation_text(operation: Operation) -> String {
     match operation {
         Operation::H(a) => format!("H {a}\n"),
         Operation::S(a) => format!("S {a}\n"),
@@ -32,10 +32,11 @@ pub fn operation_text(operation: Operation) -> String {
         Operation::CX(a, b) => format!("CX {a} {b}\n"),
         Operation::CZ(a, b) => format!("CZ {a} {b}\n"),
         Operation::M(a) => format!("M {a}\n"),
+        Operation::MR(a) => format!("MR {a}\n"),
     }
 }
 
-pub fn gate(random: &mut Random, n: usize) -> Operation {
+fn gate(random: &mut Random, n: usize) -> Operation {
     let a = random.below(n);
     let b = (a + random.between(1, n.max(2) - 1)) % n;
     match random.below(if n > 1 { 11 } else { 7 }) {
@@ -49,12 +50,21 @@ pub fn gate(random: &mut Random, n: usize) -> Operation {
     }
 }
 
+fn measurement(random: &mut Random, n: usize) -> Operation {
+    let a = random.below(n);
+    if random.chance(40) {
+        Operation::MR(a)
+    } else {
+        Operation::M(a)
+    }
+}
+
 /// Random operations, `percent` of a hundred being measurements.
 pub fn operations(random: &mut Random, n: usize, count: usize, percent: usize) -> Vec<Operation> {
     let mut made = Vec::new();
     for _ in 0..count {
         if random.chance(percent) {
-            made.push(Operation::M(random.below(n)));
+            made.push(measurement(random, n));
         } else {
             made.push(gate(random, n));
         }

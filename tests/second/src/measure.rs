@@ -1,7 +1,8 @@
 //! The measurement of one qubit, random or fixed, in the words of document
-//! 01 under "M a", and the run of all operations with lent coins.
+//! 01 under "M a", what `MR a` of document 02 does after it, and the run of
+//! all operations with lent coins.
 
-use crate::circuit::{Circuit, Operation};
+use crate::circuit::{measured, Circuit, Operation};
 use crate::letters::Letter;
 use crate::refusal::Refusal;
 use crate::row::Row;
@@ -48,6 +49,15 @@ impl Tableau {
         }
         total.minus
     }
+
+    /// What an operation does once its measurement is done and the outcome
+    /// known: `MR a` applies X on a when the outcome was 1, `M a` nothing.
+    pub fn reset(self, operation: Operation, outcome: bool) -> Tableau {
+        match operation {
+            Operation::MR(a) if outcome => self.gate(Operation::X(a)),
+            _ => self,
+        }
+    }
 }
 
 /// What a run leaves: the outcome characters, the rows, and the coins taken.
@@ -76,23 +86,23 @@ pub fn run(circuit: &Circuit, coins: &[u8]) -> Result<Finished, Refusal> {
     let mut outcomes = Vec::new();
     let (mut random, mut taken) = (0, 0);
     for (index, operation) in circuit.operations.iter().enumerate() {
-        let Operation::M(a) = *operation else {
+        let Some(a) = measured(*operation) else {
             tableau = tableau.gate(*operation);
             continue;
         };
-        if let Some(p) = tableau.random_row(a) {
-            if taken == coins.len() {
-                return Err(Refusal::at(7, index + 2));
-            }
-            let value = is_one(coins[taken]);
-            taken += 1;
-            random += 1;
+        let found = tableau.random_row(a);
+        let value = match found {
+            None => tableau.fixed_value(a),
+            Some(_) if taken == coins.len() => return Err(Refusal::at(7, index + 2)),
+            Some(_) => is_one(coins[taken]),
+        };
+        if let Some(p) = found {
             tableau = tableau.collapse(a, p, value);
-            outcomes.push(outcome_byte(true, value));
-        } else {
-            let value = tableau.fixed_value(a);
-            outcomes.push(outcome_byte(false, value));
+            random += 1;
+            taken += 1;
         }
+        tableau = tableau.reset(*operation, value);
+        outcomes.push(outcome_byte(found.is_some(), value));
     }
     Ok(Finished { outcomes, tableau, random, taken })
 }

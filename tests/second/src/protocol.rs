@@ -12,7 +12,6 @@ pub enum Case {
     Run(Vec<u8>, Vec<u8>, usize),
     Read(Vec<u8>),
     Copy(Vec<u8>, usize),
-    Patch(Vec<u8>, Vec<u8>, usize),
     Product(Vec<u8>, Vec<u8>, usize),
     Same(Vec<u8>, Vec<u8>),
 }
@@ -64,7 +63,6 @@ impl Case {
             Case::Run(..) => "run",
             Case::Read(..) => "read",
             Case::Copy(..) => "copy",
-            Case::Patch(..) => "patch",
             Case::Product(..) => "product",
             Case::Same(..) => "same",
         }
@@ -76,9 +74,7 @@ impl Case {
             Case::Check(one) | Case::Read(one) => format!("{name} {}", hex(one)),
             Case::Copy(one, length) => format!("{name} {} {length}", hex(one)),
             Case::Same(one, two) => format!("{name} {} {}", hex(one), hex(two)),
-            Case::Run(one, two, length)
-            | Case::Patch(one, two, length)
-            | Case::Product(one, two, length) => {
+            Case::Run(one, two, length) | Case::Product(one, two, length) => {
                 format!("{name} {} {} {length}", hex(one), hex(two))
             }
         }
@@ -96,7 +92,6 @@ impl Case {
                 let length = length.parse().ok()?;
                 match *name {
                     "run" => Case::Run(one, two, length),
-                    "patch" => Case::Patch(one, two, length),
                     "product" => Case::Product(one, two, length),
                     _ => return None,
                 }
@@ -112,7 +107,6 @@ impl Case {
             Case::Run(circuit, coins, length) => answers::run(circuit, coins, lent(*length)),
             Case::Read(bytes) => answers::read(bytes),
             Case::Copy(bytes, length) => answers::copy(bytes, lent(*length)),
-            Case::Patch(bytes, line, length) => answers::patch(bytes, line, lent(*length)),
             Case::Product(one, two, length) => answers::product(one, two, lent(*length)),
             Case::Same(one, two) => answers::same(one, two),
         }

@@ -1,9 +1,10 @@
-//! The examples of document 01, and some points of its order of refusals
-//! that are easy to get wrong, each written out with its answer.
+//! The examples of document 01, some of `MR` in document 02, and some points
+//! of the order of refusals that are easy to get wrong, each written out with
+//! its answer.
 
 use crate::answers;
 use crate::circuit::Operation;
-use crate::protocol::{hex, Case};
+use crate::protocol::{hex, lent, Case};
 use crate::row::Row;
 use crate::shot::shot;
 use crate::tableau::Tableau;
@@ -126,24 +127,49 @@ fn runs(tests: &mut Tests) {
     tests.equal("the empty run", &empty, "0 0 16 2 0 0 0 2b582b5a100000001000000001005352");
 }
 
+fn reset_lines(tests: &mut Tests) {
+    tests.check("Q 2\nMR 1\n", "0 0 2 1");
+    tests.check("Q 13\nMR 12\nM 12\n", "0 0 13 2");
+    tests.check("Q 2\nMR 2\n", "4 2 0 0");
+    for line in ["M0\n", "MR0\n", "MRR 0\n", "M R 0\n", "MR\n", "MR \n", "MR  0\n"] {
+        tests.check(&format!("Q 2\n{line}"), "3 2 0 0");
+    }
+    for line in ["MR 0", "MR 00\n", "MR 0 \n", "MR 0 1\n", "mr 0\n", "Mr 0\n", "RM 0\n", "R 0\n"] {
+        tests.check(&format!("Q 2\n{line}"), "3 2 0 0");
+    }
+}
+
+fn resets(tests: &mut Tests) {
+    tests.shot("\nQ 1\nMR 0\n", "2 0 fixed 0\n+X\n+Z\n");
+    tests.shot("\nQ 1\nX 0\nMR 0\nM 0\n", "3 0 fixed 1\n4 0 fixed 0\n+X\n+Z\n");
+    tests.shot("0\nQ 1\nH 0\nMR 0\n", "3 0 random 0\n+X\n+Z\n");
+    tests.shot("1\nQ 1\nH 0\nMR 0\n", "3 0 random 1\n+X\n+Z\n");
+    tests.shot("0\nQ 1\nH 0\nS 0\nMR 0\n", "4 0 random 0\n+Y\n+Z\n");
+    tests.shot("1\nQ 1\nH 0\nS 0\nMR 0\n", "4 0 random 1\n-Y\n+Z\n");
+    tests.shot("1\nQ 1\nH 0\nMR 0\nH 0\nMR 0\n", "refused 7 5\n");
+    let printed = "4 0 random 1\n5 1 fixed 1\n+XX\n+IX\n+ZI\n-ZZ\n";
+    tests.shot("1\nQ 2\nH 0\nCX 0 1\nMR 0\nM 1\n", printed);
+    let printed = "4 0 random 1\n5 1 fixed 1\n+XX\n+IX\n+ZI\n+ZZ\n";
+    tests.shot("1\nQ 2\nH 0\nCX 0 1\nMR 0\nMR 1\n", printed);
+
+    let text = b"Q 2\nH 0\nCX 0 1\nMR 0\nM 1\n".to_vec();
+    let record: &[u8] = b"31+XX+IX+ZI-ZZ\x18\0\0\0\x1a\0\0\0\x02\0SR";
+    let accepted = format!("0 0 26 1 2 1 1 {}", hex(record));
+    tests.case(Case::Run(text.clone(), vec![7, 8], 26), &accepted);
+    tests.case(Case::Run(text.clone(), vec![], 4), "8 0 0 0 0 0 0 030a1118");
+    let refused = format!("7 4 0 0 0 0 0 {}", hex(&lent(26)));
+    tests.case(Case::Run(text, vec![], 26), &refused);
+}
+
 fn records(tests: &mut Tests) {
     let bell: &[u8] = b"31+XX+IX-ZI+ZZ\x18\0\0\0\x1a\0\0\0\x02\0SR";
     let start: &[u8] = b"+X+Z\x10\0\0\0\x10\0\0\0\x01\0SR";
-    let patched: &[u8] = b"31+ZX+IX-XI+XZ\x18\0\0\0\x1a\0\0\0\x02\0SR";
+    let turned: &[u8] = b"31+ZX+IX-XI+XZ\x18\0\0\0\x1a\0\0\0\x02\0SR";
     let archive = [start, bell].concat();
     tests.case(Case::Read(archive.clone()), "0 0 26 2 16 2");
     tests.case(Case::Read(start.to_vec()), "0 0 16 1 0 0");
     tests.case(Case::Read(b"\x10\0\0\0\x10\0\0\0\x01\0SR".to_vec()), "9 0 0 0 0 0");
     tests.case(Case::Copy(archive.clone(), 26), &format!("0 0 26 {}", hex(bell)));
-    let patch = |line: &[u8], lent| Case::Patch(archive.clone(), line.to_vec(), lent);
-    tests.case(patch(b"H 0\n", 26), &format!("0 0 26 {}", hex(patched)));
-    for line in [&b"M 0\n"[..], b"M 9\n", b"H 0", b"H 0\n\n", b"H 0\nH", b"", b"\n", b"Q 2\n"] {
-        tests.case(patch(line, 2), "3 1 0 030a");
-    }
-    tests.case(patch(b"H 2\n", 2), "4 1 0 030a");
-    tests.case(patch(b"CX 7 7\n", 2), "4 1 0 030a");
-    tests.case(patch(b"CX 1 1\n", 2), "5 1 0 030a");
-    tests.case(patch(b"CX 1 0\n", 2), "8 0 0 030a");
     let mut bad = archive.clone();
     bad[16] = b'4';
     bad[19] = b'x';
@@ -156,7 +182,7 @@ fn records(tests: &mut Tests) {
     tests.case(Case::Same(bell.to_vec(), vec![]), "9 2 0 0");
     tests.case(Case::Same(bell.to_vec(), archive.clone()), "0 0 0 1");
     tests.case(Case::Same(bell.to_vec(), start.to_vec()), "0 0 0 0");
-    tests.case(Case::Same(bell.to_vec(), patched.to_vec()), "0 0 0 0");
+    tests.case(Case::Same(bell.to_vec(), turned.to_vec()), "0 0 0 0");
 }
 
 pub fn run() -> Result<String, String> {
@@ -164,9 +190,11 @@ pub fn run() -> Result<String, String> {
     rows_and_gates(&mut tests);
     texts(&mut tests);
     runs(&mut tests);
+    reset_lines(&mut tests);
+    resets(&mut tests);
     records(&mut tests);
     if tests.failed.is_empty() {
-        return Ok(format!("examples of document 01: {} as written", tests.passed));
+        return Ok(format!("examples of documents 01 and 02: {} as written", tests.passed));
     }
     Err(tests.failed.join("\n"))
 }

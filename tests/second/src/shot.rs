@@ -1,7 +1,7 @@
 //! What the program `shot` of document 01 prints for an input: the first
 //! line is the coins, the rest is the circuit.
 
-use crate::circuit::{self, Operation};
+use crate::circuit;
 use crate::measure;
 use crate::refusal::Refusal;
 
@@ -31,11 +31,11 @@ fn printed(input: &[u8]) -> Result<String, Refusal> {
     let mut out = String::new();
     let mut outcomes = done.outcomes.iter();
     for (index, operation) in circuit.operations.iter().enumerate() {
-        let Operation::M(a) = operation else {
+        let Some(a) = circuit::measured(*operation) else {
             continue;
         };
         for outcome in outcomes.by_ref().take(1) {
-            out.push_str(&outcome_line(index + 2, *a, *outcome));
+            out.push_str(&outcome_line(index + 2, a, *outcome));
         }
     }
     for row in &done.tableau.rows {

@@ -134,7 +134,7 @@ impl State {
                 self.cnot(a, b);
                 self.hadamard(b);
             }
-            Operation::M(_) => {}
+            Operation::M(_) | Operation::MR(_) => {}
         }
     }
 

@@ -1,11 +1,11 @@
 //! Random circuits run on the tableau and on the state vector side by side.
 //! After every operation the rows are properly paired and every stabilizer
 //! row with its sign leaves the state as it is; every measurement is random
-//! or fixed on both, with the same value; and the record of the whole run
-//! says the same.
+//! or fixed on both, with the same value; every MR leaves its qubit at 0; and
+//! the record of the whole run says the same.
 
 use crate::answers;
-use crate::circuit::Operation;
+use crate::circuit::{measured, Operation};
 use crate::make;
 use crate::measure::is_one;
 use crate::protocol::lent;
@@ -22,6 +22,7 @@ struct Counts {
     rows: usize,
     random: usize,
     fixed: usize,
+    resets: usize,
     below_zero: usize,
 }
 
@@ -32,8 +33,9 @@ struct Pair {
 }
 
 impl Pair {
-    /// Measure a on both; an error says where they differ.
-    fn measure(&mut self, a: usize, coin: u8) -> Result<bool, String> {
+    /// Measure a on both, and answer whether it is random, and the outcome;
+    /// an error says where they differ.
+    fn measure(&mut self, a: usize, coin: u8) -> Result<(bool, bool), String> {
         let [zero, one] = self.state.weights(a);
         if zero + one != self.state.whole() {
             return Err("the state's length is not one".to_string());
@@ -41,21 +43,33 @@ impl Pair {
         let found = self.tableau.random_row(a);
         let Some(p) = found else {
             if zero != 0 && one != 0 {
-                return Err(format!("M {a} is fixed by the rows, random by the state"));
+                return Err(format!("qubit {a} is fixed by the rows, random by the state"));
             }
             if self.tableau.fixed_value(a) != (zero == 0) {
-                return Err(format!("M {a} has another value by the rows than by the state"));
+                return Err(format!("qubit {a} has another value by the rows than by the state"));
             }
             self.outcomes.push(if zero == 0 { b'1' } else { b'0' });
-            return Ok(false);
+            return Ok((false, zero == 0));
         };
         if zero != one {
-            return Err(format!("M {a} is random by the rows, not even by the state"));
+            return Err(format!("qubit {a} is random by the rows, not even by the state"));
         }
         self.state.project(a, is_one(coin));
         self.tableau = self.tableau.clone().collapse(a, p, is_one(coin));
         self.outcomes.push(if is_one(coin) { b'3' } else { b'2' });
-        Ok(true)
+        Ok((true, is_one(coin)))
+    }
+
+    /// What MR a does on both after a was measured with this outcome.
+    fn reset(&mut self, a: usize, outcome: bool) -> Result<(), String> {
+        if outcome {
+            self.state.gate(Operation::X(a));
+        }
+        self.tableau = self.tableau.clone().reset(Operation::MR(a), outcome);
+        if self.state.weights(a)[1] != 0 {
+            return Err(format!("MR {a} does not leave 0"));
+        }
+        Ok(())
     }
 
     /// How many products of this measurement have powers of i that sum to
@@ -93,14 +107,19 @@ fn side_by_side(
         Pair { tableau: Tableau::start(n), state: State::start(n), outcomes: Vec::new() };
     let mut rest = coins.iter();
     for operation in operations {
-        if let Operation::M(a) = *operation {
+        if let Some(a) = measured(*operation) {
             counts.below_zero += pair.sums_below_zero(a);
             let ahead = rest.as_slice().first().copied().unwrap_or(0);
-            if pair.measure(a, ahead)? {
+            let (random, outcome) = pair.measure(a, ahead)?;
+            if random {
                 rest.next();
                 counts.random += 1;
             } else {
                 counts.fixed += 1;
+            }
+            if matches!(operation, Operation::MR(_)) {
+                pair.reset(a, outcome)?;
+                counts.resets += 1;
             }
         } else {
             pair.state.gate(*operation);
@@ -141,11 +160,11 @@ pub fn check(seed: u64, count: u64) -> Result<String, String> {
     for _ in 0..count {
         one_circuit(&mut random, &mut counts)?;
     }
-    let Counts { operations, rows, random: coins, fixed, below_zero } = counts;
+    let Counts { operations, rows, random: coins, fixed, resets, below_zero } = counts;
     Ok([
         format!("state vector: {count} circuits on up to {MOST_QUBITS} qubits"),
         format!("{operations} operations, {rows} stabilizer rows"),
-        format!("{coins} random and {fixed} fixed measurements"),
+        format!("{coins} random and {fixed} fixed measurements, {resets} of them MR"),
         format!("{below_zero} power sums below zero, no difference"),
     ]
     .join(", "))

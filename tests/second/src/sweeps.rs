@@ -1,7 +1,7 @@
 //! The fixed sweeps over small inputs: every byte value at every place of
 //! short lines, rows and records, every prefix and suffix, every product of
 //! short rows, every circuit of two operations on two qubits, every coin
-//! byte, and every number after `Q`.
+//! byte, every number after `Q`, and every short word before a number.
 
 use crate::circuit::Operation;
 use crate::damage;
@@ -27,6 +27,7 @@ pub fn all(write: Write) -> io::Result<()> {
     two_operations(write)?;
     coin_bytes(write)?;
     first_lines(write)?;
+    operation_words(write)?;
     operation_lines(write)
 }
 
@@ -68,7 +69,10 @@ fn bytes_of_lines(write: Write) -> io::Result<()> {
         write(Case::Run(text, vec![1], 17))?;
     }
     for line in every_byte(b"CZ 1 0\n") {
-        write(Case::Patch(pair_record(), line, 26))?;
+        write(Case::Check([b"Q 2\n", &line[..]].concat()))?;
+    }
+    for line in every_byte(b"MR 0\n") {
+        write(Case::Run([b"Q 1\nX 0\n", &line[..]].concat(), vec![1], 17))?;
     }
     Ok(())
 }
@@ -81,7 +85,7 @@ fn bytes_before_lines(write: Write) -> io::Result<()> {
             write(Case::Check([b"Q 64\n", &changed[..], behind].concat()))?;
         }
     }
-    for line in [&b"S 11\n"[..], b"M 0\n"] {
+    for line in [&b"S 11\n"[..], b"M 0\n", b"MR 0\n", b"MR 11\n"] {
         for changed in every_byte(line) {
             write(Case::Run([b"Q 12\n", &changed[..], behind].concat(), vec![1], 327))?;
         }
@@ -111,7 +115,6 @@ fn parts_of_records(write: Write) -> io::Result<()> {
             write(Case::Read(bytes[cut..].to_vec()))?;
             write(Case::Copy(bytes.clone(), cut))?;
             write(Case::Copy(bytes[cut..].to_vec(), whole + 2))?;
-            write(Case::Patch(bytes.clone(), b"Y 0\n".to_vec(), cut))?;
             write(Case::Same(bytes[..cut].to_vec(), bytes.clone()))?;
             write(Case::Same(bytes.clone(), bytes[cut..].to_vec()))?;
         }
@@ -163,9 +166,12 @@ fn two_operations(write: Write) -> io::Result<()> {
     let mut every = vec![];
     for (a, b) in [(0, 1), (1, 0)] {
         every.extend([Operation::H(a), Operation::S(a), Operation::X(a), Operation::Y(a)]);
-        every.extend([Operation::Z(a), Operation::CX(a, b), Operation::CZ(a, b), Operation::M(a)]);
+        every.extend([Operation::Z(a), Operation::CX(a, b), Operation::CZ(a, b)]);
+        every.extend([Operation::M(a), Operation::MR(a)]);
     }
-    for prepared in [vec![], vec![Operation::H(0), Operation::CX(0, 1), Operation::S(0)]] {
+    let random = vec![Operation::H(0), Operation::CX(0, 1), Operation::S(0)];
+    let ones = vec![Operation::X(0), Operation::X(1)];
+    for prepared in [vec![], random, ones] {
         for one in &every {
             for two in &every {
                 let mut operations = prepared.clone();
@@ -178,9 +184,10 @@ fn two_operations(write: Write) -> io::Result<()> {
 }
 
 fn coin_bytes(write: Write) -> io::Result<()> {
-    for value in 0..=255 {
-        let text = b"Q 2\nH 0\nM 0\nCX 0 1\nM 1\n";
-        write(Case::Run(text.to_vec(), vec![value, value], 26))?;
+    for text in [&b"Q 2\nH 0\nM 0\nCX 0 1\nM 1\n"[..], b"Q 2\nH 0\nCX 0 1\nMR 0\nMR 1\n"] {
+        for value in 0..=255 {
+            write(Case::Run(text.to_vec(), vec![value, value], 26))?;
+        }
     }
     Ok(())
 }
@@ -198,9 +205,29 @@ fn first_lines(write: Write) -> io::Result<()> {
     write(Case::Check(Vec::new()))
 }
 
+/// Every word of one to three of the letters that operations are named by,
+/// before one number and before two.
+fn operation_words(write: Write) -> io::Result<()> {
+    let mut words = vec![String::new()];
+    for _ in 0..3 {
+        let mut longer = Vec::new();
+        for word in &words {
+            for letter in "HSXYZCMR".chars() {
+                longer.push(format!("{word}{letter}"));
+            }
+        }
+        for word in &longer {
+            write(Case::Check(format!("Q 2\n{word} 0\n").into_bytes()))?;
+            write(Case::Check(format!("Q 2\n{word} 0 1\n").into_bytes()))?;
+        }
+        words = longer;
+    }
+    Ok(())
+}
+
 /// Bad lines at the first, a middle and the last place, one before another.
 fn operation_lines(write: Write) -> io::Result<()> {
-    let refused = ["CX 1 1", "CX 9 9", "CZ 0 2", "M 2", "H 999", "CZ 1 1"];
+    let refused = ["CX 1 1", "CX 9 9", "CZ 0 2", "M 2", "MR 2", "MR 999", "H 999", "CZ 1 1"];
     for line in damage::MALFORMED.iter().chain(&refused) {
         for before in [0, 3, 7] {
             let mut text = "Q 2\n".to_string() + &"H 0\n".repeat(before) + line;
@@ -212,8 +239,6 @@ fn operation_lines(write: Write) -> io::Result<()> {
             text.push_str("CX 1 1\nM 5\nbad\n");
             write(Case::Check(text.into_bytes()))?;
         }
-        write(Case::Patch(pair_record(), line.as_bytes().to_vec(), 3))?;
-        write(Case::Patch(pair_record(), format!("{line}\n").into_bytes(), 26))?;
     }
     Ok(())
 }

@@ -56,7 +56,7 @@ impl Tableau {
             Operation::Z(a) => self.one(a, |x, z| (x, x, z)),
             Operation::CX(a, b) => self.cx(a, b),
             Operation::CZ(a, b) => self.cz(a, b),
-            Operation::M(_) => self,
+            Operation::M(_) | Operation::MR(_) => self,
         }
     }
 
