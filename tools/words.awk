@@ -82,7 +82,7 @@ function plain(k,   s, i, b) {
 function is_front(s) {
     if (place == 1) return s ~ /^Q( (0|[1-9][0-9]?[0-9]?)?)?$/
     if (s ~ /^C([XZ]( ((0|[1-9][0-9]?[0-9]?)( (0|[1-9][0-9]?[0-9]?)?)?)?)?)?$/) return 1
-    return s ~ /^[HSXYZM]( (0|[1-9][0-9]?[0-9]?)?)?$/
+    return s ~ /^([HSXYZ]|MR?)( (0|[1-9][0-9]?[0-9]?)?)?$/
 }
 
 function misfit(s,   c) {

@@ -7,13 +7,12 @@ use native.Mathlib.Omega.{arith}
 use lib.ListN.{length, drop}
 use Rattle.answers.specs.Verdict.{Verdict, accepted, refused, then}
 use Rattle.clifford.specs.declared.Op.{Op}
-use Rattle.clifford.specs.declared.Op.the-variants.{Gate as apply, Measure as measure}
 use Rattle.circuit.specs.Lines.{Found, found, malformed, op-line}
 use Rattle.circuit.specs.Text.{all-below, apart, checked, ends, operations, measures, count-measured}
 use Rattle.circuit.specs.parts.Reading.{Stands}
 use Rattle.checking.specs.parts.Promises.{line-verdict, Passes, Counts, counts}
 use Rattle.circuit.proofs.Positions.{front, past}
-use Rattle.circuit.proofs.Walk.{after-line, operations-suc, operations-zero, operations-end}
+use Rattle.circuit.proofs.Walk.{measures-one, after-line, operations-suc, operations-zero, operations-end}
 
 module _ (s : List ℕ) (at n line : ℕ) where
   pub refused-four : (op : Op) (next : ℕ) → Stands op-line s at op next → all-below n op ≡ false → line-verdict n line (op-line (drop at s)) ≡ refused 4 line
@@ -87,12 +86,8 @@ pub record Counting (n : ℕ) (s : List ℕ) (body at count measured : ℕ) : Ty
 pub starts : (n : ℕ) (s : List ℕ) (body : ℕ) → Counting n s body body 0 0
 starts n s body = record { same = ap (then (operations n 4096 2 (drop body s))) (λ i ops. accepted (added-none ops i)); enough = omega arith; few = omega arith }
 
-measures-small : (op : Op) → measures op ≤ 1
-measures-small (apply g) = omega arith
-measures-small (measure a) = omega arith
-
 pub passes-small : {s : List ℕ} {at n line next m : ℕ} → Passes s at n line next m → m ≤ 1
-passes-small w = omega (arith, w .measured-is, measures-small (w .op))
+passes-small w = omega (arith, w .measured-is, measures-one (w .op))
 
 module _ (n : ℕ) (s : List ℕ) (body at count measured : ℕ) (k : Counting n s body at count measured) where
   room : count < 4096 → 4096 - count ≡ suc (4096 - (count + 1))
@@ -136,7 +131,7 @@ module _ (n : ℕ) (s : List ℕ) (body at count measured : ℕ) (k : Counting n
             ∙ ap (λ (v : Verdict (List Op)). then v (λ ops. accepted (added count measured ops))) (sym (passed-after n left (count + 2) op (drop next s) (w .allowed)))
             ∙ reads-on (found op (drop next s)) h (omega (arith, k .enough)) (w .stands .reads));
         enough = omega (arith, k .enough);
-        few = omega (arith, k .few, measures-small op, w .measured-is);
+        few = omega (arith, k .few, measures-one op, w .measured-is);
       }
 
   pub counted : length s ≤ at → accepted (record { operations = count; measured = measured }) ≡ then (operations n 4096 2 (drop body s)) (λ ops. accepted (counts ops))

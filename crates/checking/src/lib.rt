@@ -4,13 +4,12 @@ ghost use Prim.Native.Nat.{_≤_};
 ghost use lib.ListN.{drop};
 ghost use Rattle.clifford.specs.Limits.{most-operations};
 ghost use Rattle.answers.specs.Verdict.{accepted, then};
-ghost use Rattle.circuit.specs.Text.{operations, measures};
+ghost use Rattle.circuit.specs.Text.{operations};
 ghost use Rattle.checking.specs.parts.Promises.{counts, TurnAt, told-lines, Heads, Scans};
 ghost use Rattle.checking.specs.Check.{told-check, check-of};
 use answers::Refusal;
 use circuit::Line;
 use circuit::numbers::Number;
-use clifford::Op;
 
 // The position behind a line, and 1 if it measures; or why it is refused.
 enum Turn {
@@ -40,15 +39,6 @@ pub enum Checked {
     Refused(Refusal),
 }
 
-fn one_if_measure(op: Op) -> usize
-    ensures { λ r. ⌜ r ≡ measures op ⌝ }
-{
-    match op {
-        Op::Gate(_) => 0,
-        Op::Measure(_) => 1,
-    }
-}
-
 fn judged_at(s: &[u8], at: usize, n: usize, line: usize) -> Turn
     ensures { λ r. ⌜ TurnAt (now (s .entry)) at n line r ⌝ }
 {
@@ -57,7 +47,7 @@ fn judged_at(s: &[u8], at: usize, n: usize, line: usize) -> Turn
             let below = circuit::qubits_below(n, op);
             let apart = circuit::qubits_apart(op);
             if below & apart {
-                return Turn::Next(next, one_if_measure(op));
+                return Turn::Next(next, circuit::one_if_measure(op));
             }
             if below {
                 return Turn::Refused(Refusal::QubitTwice(line));

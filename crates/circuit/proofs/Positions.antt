@@ -1,13 +1,13 @@
 -- What stands at a position of a text, as the definitions see it. Assumes nothing.
-use mathlib.Core.Bool.{Bool, true, false, _&&_}
-use mathlib.Core.List.{List, [], _∷_}
+use mathlib.Core.Bool.{Bool, true, false, _&&_, cond}
+use mathlib.Core.List.{List, [], _∷_, _++_}
 use mathlib.Core.Option.{none, some}
-use mathlib.Core.Path.{_≡_, refl, sym}
+use mathlib.Core.Path.{_≡_, refl, sym, _∙_, ap}
 use Prim.Native.Nat.{ℕ, _+_, _-_, _≤_, _<_}
 use native.Mathlib.Omega.{arith}
 use native.Mathlib.Numerals.{add-one}
-use borrow.Author.Tests.{lt-leb, le-leb, eq-eqb, ne-eqb}
-use lib.Dec.{leb}
+use borrow.Author.Tests.{lt-leb, le-leb, eqb-true, eq-eqb, ne-eqb}
+use lib.Dec.{eqb, leb}
 use lib.ListN.{length, getD, drop, drop-of-length-le}
 use lib.Seq.{drop-cons}
 use Rattle.circuit.specs.Lines.{strip, is-digit}
@@ -54,3 +54,17 @@ digit-none s at h e = rw (front s at h, e)
 
 pub digit-some : (s : List ℕ) (at : ℕ) → at < length s → is-digit (getD s at 0) ≡ true → getD s at 0 - 48 ≡ digit-value (drop at s)
 digit-some s at h e = rw (front s at h, e)
+
+-- bytes that stand at the front
+strip-cons : (b c : ℕ) (bs s rest : List ℕ) (z : Bool) → eqb b c ≡ z → strip (b ∷ bs) (c ∷ s) ≡ some rest → (b ≡ c) × (strip bs s ≡ some rest)
+strip-cons b c bs s rest true z e = (eqb-true b c z, sym (ap (λ (y : Bool). cond y (strip bs s) none) z) ∙ e)
+strip-cons b c bs s rest false z e =
+    let q : none ≡ some rest = sym (ap (λ (y : Bool). cond y (strip bs s) none) z) ∙ e in
+    absurd (let k : _≡_ {A = ℕ} 0 1 = cc in omega arith)
+
+pub stripped : (bs s rest : List ℕ) → strip bs s ≡ some rest → s ≡ bs ++ rest
+stripped [] s rest e = cc
+stripped (b ∷ bs) [] rest e = cc
+stripped (b ∷ bs) (c ∷ s) rest e =
+    let w = strip-cons b c bs s rest (eqb b c) refl e in
+    λ i. sym (w .0) i ∷ stripped bs s rest (w .1) i

@@ -51,14 +51,14 @@ module _ (s : List ℕ) (at : ℕ) where
 -- the line of an operation whose name is read
 module _ (s : List ℕ) (at : ℕ) where
   pub one-line :
-      (f : ℕ → Op) (a next : ℕ) (r : Line)
-      → Spelled s at (with-one f) 1 → Stands qubit s (at + 1) a next → ReadsAt (closed-by (end-byte ∷ []) (f a)) s next r → ReadsAt op-line s at r
-  one-line f a next r n q = line-moved op-line (closed-by (end-byte ∷ []) (f a)) s at next r (rw (n .names-it, q .reads)) (omega (arith, q .after))
+      (f : ℕ → Op) (behind a next : ℕ) (r : Line)
+      → Spelled s at (with-one f) behind → Stands qubit s behind a next → ReadsAt (closed-by (end-byte ∷ []) (f a)) s next r → ReadsAt op-line s at r
+  one-line f behind a next r n q = line-moved op-line (closed-by (end-byte ∷ []) (f a)) s at next r (rw (n .names-it, q .reads)) (omega (arith, n .after, q .after))
 
-  pub one-malformed : (f : ℕ → Op) → Spelled s at (with-one f) 1 → qubit (drop (at + 1) s) ≡ malformed → op-line (drop at s) ≡ malformed
-  one-malformed f n q = rw (n .names-it, q)
+  pub one-malformed : (f : ℕ → Op) (behind : ℕ) → Spelled s at (with-one f) behind → qubit (drop behind s) ≡ malformed → op-line (drop at s) ≡ malformed
+  one-malformed f behind n q = rw (n .names-it, q)
 
-  pub two-line : (g : Two) (r : Line) → Spelled s at (with-two (λ a b. apply (two g a b))) 2 → ReadsAt (pair-line g) s (at + 2) r → ReadsAt op-line s at r
+  pub two-line : (g : Two) (r : Line) → Spelled s at (with-two (λ a b. apply (two g a b))) (at + 2) → ReadsAt (pair-line g) s (at + 2) r → ReadsAt op-line s at r
   two-line g r n = line-moved op-line (pair-line g) s at (at + 2) r (rw (n .names-it)) (omega arith)
 
   pub unnamed : named names (drop at s) ≡ malformed → op-line (drop at s) ≡ malformed

@@ -14,7 +14,7 @@ use Rattle.clifford.specs.declared.Op.{Op}
 use Rattle.clifford.specs.declared.Op.the-variants.{Gate as apply, Measure as measure}
 use Rattle.clifford.specs.Run.{Valid, All-valid}
 use Rattle.circuit.specs.Lines.{Found, found, malformed, op-line}
-use Rattle.circuit.specs.Text.{all-below, apart, checked, ends, operations}
+use Rattle.circuit.specs.Text.{all-below, apart, checked, ends, operations, measures}
 use Rattle.circuit.specs.parts.Reading.{Stands}
 use Rattle.circuit.proofs.Positions.{front, past}
 
@@ -49,12 +49,16 @@ pub valid-op : (n : ℕ) (op : Op) → all-below n op ≡ true → apart op ≡ 
 valid-op n (apply (one g a)) b d = ltb-true a n b
 valid-op n (apply (two g a c)) b d =
     (ltb-true a n (and-left (ltb a n) (ltb c n) b), ltb-true c n (and-right (ltb a n) (ltb c n) b), eqb-false a c (not-true (eqb a c) d))
-valid-op n (measure a) b d = ltb-true a n b
+valid-op n (measure f a) b d = ltb-true a n b
 
 pub check-valid : (n line : ℕ) (op found-op : Op) → checked n line op ≡ accepted found-op → Valid n op
 check-valid n line op o e =
     let rest : unless (apart op) 5 line (accepted op) ≡ accepted o = unless-passed (all-below n op) 4 line (unless (apart op) 5 line (accepted op)) o e in
     valid-op n op (unless-true (all-below n op) 4 line (unless (apart op) 5 line (accepted op)) o e) (unless-true (apart op) 5 line (accepted op) o rest)
+
+pub measures-one : (op : Op) → measures op ≤ 1
+measures-one (apply g) = omega arith
+measures-one (measure f a) = omega arith
 
 -- what follows a line that was read
 unfoldable pub after-line : ℕ → ℕ → ℕ → Found Op → Verdict (List Op)

@@ -1,12 +1,13 @@
 -- An operation line: its name, a space and a number for each qubit, and the end byte. Document 01, "The circuit text". Assumes nothing.
 use mathlib.Core.Bool.{Bool, _&&_, cond}
-use mathlib.Core.List.{List, [], _∷_}
+use mathlib.Core.List.{List, [], _∷_, _++_}
 use mathlib.Core.Option.{Option, none, some}
 use Prim.Native.Nat.{ℕ, zero, suc, _+_, _-_, _*_}
 use lib.Dec.{eqb, leb}
 use Rattle.clifford.specs.declared.One.the-variants.{H, S, PauliX, PauliY, PauliZ}
 use Rattle.clifford.specs.declared.Two.the-variants.{Cx, Cz}
 use Rattle.clifford.specs.declared.Gate.the-variants.{One as one, Two as two}
+use Rattle.clifford.specs.declared.After.the-variants.{Keep, Reset}
 use Rattle.clifford.specs.declared.Op.{Op}
 use Rattle.clifford.specs.declared.Op.the-variants.{Gate as apply, Measure as measure}
 
@@ -67,21 +68,23 @@ names =
     ∷ record { spelled = 90 ∷ []; form = with-one (λ a. apply (one PauliZ a)) }
     ∷ record { spelled = 67 ∷ 88 ∷ []; form = with-two (λ a b. apply (two Cx a b)) }
     ∷ record { spelled = 67 ∷ 90 ∷ []; form = with-two (λ a b. apply (two Cz a b)) }
-    ∷ record { spelled = 77 ∷ []; form = with-one measure }
+    ∷ record { spelled = 77 ∷ []; form = with-one (measure Keep) }
+    ∷ record { spelled = 77 ∷ 82 ∷ []; form = with-one (measure Reset) }
     ∷ []
 
 -- a space, and a number
 abbrev pub qubit : List ℕ → Found ℕ
 qubit s = elim (strip (space ∷ []) s) [ some rest ↦ number rest | none ↦ malformed ]
 
-abbrev pub qubits : Form → List ℕ → Found Op
-qubits (with-one f) s = then-read (qubit s) (λ a rest. found (f a) rest)
-qubits (with-two f) s = then-read (qubit s) (λ a rest. then-read (qubit rest) (λ b more. found (f a b) more))
+-- what stands behind a name and its space: a number, and where the form has two qubits a space and another
+abbrev pub numbers : Form → List ℕ → Found Op
+numbers (with-one f) s = then-read (number s) (λ a rest. found (f a) rest)
+numbers (with-two f) s = then-read (number s) (λ a rest. then-read (qubit rest) (λ b more. found (f a b) more))
 
--- the first of these names that stands at the front decides
+-- the name that stands at the front, with a space behind it, decides; there is at most one, in whatever order they are listed (`any-order` of proofs/Order.antt)
 abbrev pub named : List Name → List ℕ → Found Op
 named [] s = malformed
-named (e ∷ es) s = elim (strip (e .spelled) s) [ some rest ↦ qubits (e .form) rest | none ↦ named es s ]
+named (e ∷ es) s = elim (strip (e .spelled ++ space ∷ []) s) [ some rest ↦ numbers (e .form) rest | none ↦ named es s ]
 
 abbrev pub op-line : List ℕ → Found Op
 op-line s = then-read (named names s) (closed-by (end-byte ∷ []))

@@ -19,13 +19,13 @@ pub record Circuit : Type 0 where
 abbrev pub all-below : ℕ → Op → Bool
 all-below n (apply (one g a)) = ltb a n
 all-below n (apply (two g a b)) = ltb a n && ltb b n
-all-below n (measure a) = ltb a n
+all-below n (measure f a) = ltb a n
 
 -- 5: no qubit is named twice
 abbrev pub apart : Op → Bool
 apart (apply (one g a)) = true
 apart (apply (two g a b)) = not (eqb a b)
-apart (measure a) = true
+apart (measure f a) = true
 
 -- in a line 3, 4, 5
 abbrev pub checked : ℕ → ℕ → Op → Verdict Op
@@ -62,7 +62,7 @@ meaning s =
 -- 1 for a measurement, 0 for a gate
 abbrev pub measures : Op → ℕ
 measures (apply g) = 0
-measures (measure a) = 1
+measures (measure f a) = 1
 
 abbrev pub count-measured : List Op → ℕ
 count-measured [] = 0

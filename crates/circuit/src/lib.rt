@@ -2,9 +2,9 @@
 ghost use mathlib.Core.Path.{_≡_};
 ghost use mathlib.Core.List.{[], _∷_};
 ghost use Rattle.circuit.specs.Lines.{closed-by, end-byte};
-ghost use Rattle.circuit.specs.Text.{header, all-below, apart};
+ghost use Rattle.circuit.specs.Text.{header, all-below, apart, measures};
 ghost use Rattle.circuit.specs.parts.Reading.{NumberAt, NameAt, ReadsAt, pair-line, LineAt};
-use answers::Refusal;
+use clifford::After;
 use clifford::Gate;
 use clifford::One;
 use clifford::Op;
@@ -19,11 +19,11 @@ pub enum Line {
     Malformed,
 }
 
-// The name of an operation.
+// The name of an operation; that of a measurement with the position behind it.
 enum Word {
     One(One),
     Two(Two),
-    Measure,
+    Measure(After, usize),
     Nothing,
 }
 
@@ -40,7 +40,12 @@ fn name_at(s: &[u8], at: usize) -> Word
         88 => Word::One(One::PauliX),
         89 => Word::One(One::PauliY),
         90 => Word::One(One::PauliZ),
-        77 => Word::Measure,
+        77 => {
+            if numbers::byte_at(s, at + 1, 82) {
+                return Word::Measure(After::Reset, at + 2);
+            }
+            Word::Measure(After::Keep, at + 1)
+        }
         67 => {
             if numbers::byte_at(s, at + 1, 88) {
                 return Word::Two(Two::Cx);
@@ -86,8 +91,8 @@ pub fn line_at(s: &[u8], at: usize) -> Line
             Number::Malformed => Line::Malformed,
         },
         Word::Two(gate) => pair_at(s, at + 2, gate),
-        Word::Measure => match numbers::qubit_at(s, at + 1) {
-            Number::Is(a, next) => closed_at(s, next, Op::Measure(a)),
+        Word::Measure(after, behind) => match numbers::qubit_at(s, behind) {
+            Number::Is(a, next) => closed_at(s, next, Op::Measure(after, a)),
             Number::Malformed => Line::Malformed,
         },
         Word::Nothing => Line::Malformed,
@@ -102,7 +107,7 @@ pub fn qubits_below(n: usize, op: Op) -> bool
             Gate::One(_, a) => a < n,
             Gate::Two(_, a, b) => (a < n) & (b < n),
         },
-        Op::Measure(a) => a < n,
+        Op::Measure(_, a) => a < n,
     }
 }
 
@@ -114,7 +119,16 @@ pub fn qubits_apart(op: Op) -> bool
             Gate::One(_, _) => true,
             Gate::Two(_, a, b) => a != b,
         },
-        Op::Measure(_) => true,
+        Op::Measure(_, _) => true,
+    }
+}
+
+pub fn one_if_measure(op: Op) -> usize
+    ensures { λ r. ⌜ r ≡ measures op ⌝ }
+{
+    match op {
+        Op::Gate(_) => 0,
+        Op::Measure(_, _) => 1,
     }
 }
 

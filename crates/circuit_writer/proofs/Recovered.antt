@@ -1,41 +1,29 @@
 -- What is read was written: a text that means a circuit is the text of that circuit. Assumes nothing.
-use mathlib.Core.Bool.{Bool, true, false, cond}
+use mathlib.Core.Bool.{true}
 use mathlib.Core.List.{List, [], _∷_, _++_, append-assoc}
 use mathlib.Core.Logic.{_⊎_, inl, inr, ⊎-elim}
 use mathlib.Core.Option.{Option, none, some}
 use mathlib.Core.Path.{_≡_, refl, sym, _∙_, ap}
 use Prim.Native.Nat.{ℕ, zero, suc, _<_}
 use native.Mathlib.Omega.{arith}
-use borrow.Author.Tests.{eqb-true}
-use lib.Dec.{eqb}
 use Rattle.answers.specs.Verdict.{accepted}
 use Rattle.clifford.specs.declared.One.the-variants.{H, S, PauliX, PauliY, PauliZ}
 use Rattle.clifford.specs.declared.Two.the-variants.{Cx, Cz}
 use Rattle.clifford.specs.declared.Gate.the-variants.{One as one, Two as two}
+use Rattle.clifford.specs.declared.After.the-variants.{Keep, Reset}
 use Rattle.clifford.specs.declared.Op.{Op}
 use Rattle.clifford.specs.declared.Op.the-variants.{Gate as apply, Measure as measure}
-use Rattle.circuit.specs.Lines.{Found, found, malformed, then-read, strip, closed-by, number, with-one, with-two, Name, qubits, qubit, named, names, op-line}
+use Rattle.circuit.specs.Lines.{Found, found, malformed, then-read, strip, closed-by, number, with-one, with-two, Name, qubit, named, names, op-line}
 use Rattle.circuit.specs.Text.{Circuit, ends, operations, header, meaning}
+use Rattle.circuit.specs.parts.Reading.{qubits}
+use Rattle.circuit.proofs.Positions.{stripped}
+use Rattle.circuit.proofs.Names.{or-else, spaced-qubits}
 use Rattle.circuit.proofs.Readings.{closing, spacing}
 use Rattle.circuit.proofs.Walk.{ends-or-not, next-line, no-more}
 use Rattle.checking.proofs.Meant.{parts}
 use Rattle.circuit_writer.specs.Writing.{short-decimal, name-text, qubit-text, qubits-text, line-text, header-text, lines-text, circuit-text}
 use Rattle.circuit_writer.specs.parts.Storing.{Small}
 use Rattle.circuit_writer.proofs.Numerals.{same-found, number-read}
-
--- bytes that stand at the front
-strip-cons : (b c : ℕ) (bs s rest : List ℕ) (z : Bool) → eqb b c ≡ z → strip (b ∷ bs) (c ∷ s) ≡ some rest → (b ≡ c) × (strip bs s ≡ some rest)
-strip-cons b c bs s rest true z e = (eqb-true b c z, sym (ap (λ (y : Bool). cond y (strip bs s) none) z) ∙ e)
-strip-cons b c bs s rest false z e =
-    let q : none ≡ some rest = sym (ap (λ (y : Bool). cond y (strip bs s) none) z) ∙ e in
-    absurd (let k : _≡_ {A = ℕ} 0 1 = cc in omega arith)
-
-stripped : (bs s rest : List ℕ) → strip bs s ≡ some rest → s ≡ bs ++ rest
-stripped [] s rest e = cc
-stripped (b ∷ bs) [] rest e = cc
-stripped (b ∷ bs) (c ∷ s) rest e =
-    let w = strip-cons b c bs s rest (eqb b c) refl e in
-    λ i. sym (w .0) i ∷ stripped bs s rest (w .1) i
 
 -- a reading that goes on has gone well before
 pub record Before {A B : Type 0} (r : Found A) (f : A → List ℕ → Found B) (b : B) (rest : List ℕ) : Type 0 where
@@ -133,15 +121,20 @@ Among [] s op rest = ⊥
 Among (e ∷ es) s op rest = Stood e s op rest ⊎ Among es s op rest
 
 among-if :
-    (e : Name) (es : List Name) (s : List ℕ) (op : Op) (rest : List ℕ) (o : Option (List ℕ)) → strip (e .spelled) s ≡ o
+    (e : Name) (es : List Name) (s : List ℕ) (op : Op) (rest : List ℕ) (o : Option (List ℕ)) → strip (e .spelled ++ 32 ∷ []) s ≡ o
     → (named es s ≡ found op rest → Among es s op rest)
-    → elim o as (λ _. Found Op) [ some u ↦ qubits (e .form) u | none ↦ named es s ] ≡ found op rest → Among (e ∷ es) s op rest
-among-if e es s op rest (some u) q go h = inl (record { behind = u; text = stripped (e .spelled) s u q; reads = h })
+    → or-else (e .form) o (named es s) ≡ found op rest → Among (e ∷ es) s op rest
+among-if e es s op rest (some u) q go h =
+    inl (record {
+      behind = 32 ∷ u;
+      text = stripped (e .spelled ++ 32 ∷ []) s u q ∙ append-assoc (e .spelled) (32 ∷ []) u;
+      reads = sym (spaced-qubits (e .form) (32 ∷ u)) ∙ h;
+    })
 among-if e es s op rest none q go h = inr (go h)
 
 among : (es : List Name) (s : List ℕ) (op : Op) (rest : List ℕ) → named es s ≡ found op rest → Among es s op rest
 among [] s op rest h = absurd (let k : _≡_ {A = ℕ} 0 1 = cc in omega arith)
-among (e ∷ es) s op rest h = among-if e es s op rest (strip (e .spelled) s) refl (among es s op rest) h
+among (e ∷ es) s op rest h = among-if e es s op rest (strip (e .spelled ++ 32 ∷ []) s) refl (among es s op rest) h
 
 operation-read : (s : List ℕ) (op : Op) (rest : List ℕ) → Among names s op rest → Operation s op rest
 operation-read s op rest =
@@ -152,7 +145,8 @@ operation-read s op rest =
     (⊎-elim (λ w. one-operation (90 ∷ []) s (w .behind) (w .text) op rest (λ a. apply (one PauliZ a)) (λ a. refl) (λ a. refl) (λ a h. h) (w .reads))
     (⊎-elim (λ w. two-operation (67 ∷ 88 ∷ []) s (w .behind) (w .text) op rest (λ a b. apply (two Cx a b)) (λ a b. refl) (λ a b. refl) (λ a b h k. (h, k)) (w .reads))
     (⊎-elim (λ w. two-operation (67 ∷ 90 ∷ []) s (w .behind) (w .text) op rest (λ a b. apply (two Cz a b)) (λ a b. refl) (λ a b. refl) (λ a b h k. (h, k)) (w .reads))
-    (⊎-elim (λ w. one-operation (77 ∷ []) s (w .behind) (w .text) op rest measure (λ a. refl) (λ a. refl) (λ a h. h) (w .reads)) (λ z. absurd z))))))))
+    (⊎-elim (λ w. one-operation (77 ∷ []) s (w .behind) (w .text) op rest (measure Keep) (λ a. refl) (λ a. refl) (λ a h. h) (w .reads))
+    (⊎-elim (λ w. one-operation (77 ∷ 82 ∷ []) s (w .behind) (w .text) op rest (measure Reset) (λ a. refl) (λ a. refl) (λ a h. h) (w .reads)) (λ z. absurd z)))))))))
 
 -- a line
 pub record Line-read (s : List ℕ) (op : Op) (rest : List ℕ) : Type 0 where

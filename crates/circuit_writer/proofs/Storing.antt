@@ -12,6 +12,8 @@ use Rattle.clifford.specs.declared.One.{One}
 use Rattle.clifford.specs.declared.Two.{Two}
 use Rattle.clifford.specs.declared.Gate.{Gate}
 use Rattle.clifford.specs.declared.Gate.the-variants.{One as one, Two as two}
+use Rattle.clifford.specs.declared.After.{After}
+use Rattle.clifford.specs.declared.After.the-variants.{Keep, Reset}
 use Rattle.clifford.specs.declared.Op.{Op}
 use Rattle.clifford.specs.declared.Op.the-variants.{Gate as apply, Measure as measure}
 use Rattle.clifford.specs.Named.{one-letter}
@@ -100,9 +102,20 @@ module _ {op : Op} {gate : Gate} (e : op ≡ apply gate) where
     pub small-two : Small op → (a < 1000) × (b < 1000)
     small-two s = rw (e, f) at s
 
-module _ {op : Op} {a : ℕ} (e : op ≡ measure a) where
-  pub name-measure : name-text op ≡ 77 ∷ []
-  name-measure = rw e
+module _ {op : Op} {f : After} {a : ℕ} (e : op ≡ measure f a) where
+  pub name-keep : f ≡ Keep → name-text op ≡ 77 ∷ []
+  name-keep k = rw (e, k)
+
+  pub name-reset : f ≡ Reset → name-text op ≡ 77 ∷ 82 ∷ []
+  name-reset k = rw (e, k)
+
+  -- a name begins with a byte
+  pub name-some : 1 ≤ length (name-text op)
+  name-some = rw e (go f)
+    where
+      go : (f : After) → 1 ≤ length (name-text (measure f a))
+      go Keep = omega arith
+      go Reset = omega arith
 
   pub qubits-measure : qubits-text op ≡ qubit-text a
   qubits-measure = rw e

@@ -13,10 +13,11 @@ use Rattle.clifford.specs.declared.One.the-variants.{H, S, PauliX, PauliY, Paul
 use Rattle.clifford.specs.declared.Two.{Two}
 use Rattle.clifford.specs.declared.Two.the-variants.{Cx, Cz}
 use Rattle.clifford.specs.declared.Gate.the-variants.{One as one, Two as two}
+use Rattle.clifford.specs.declared.After.the-variants.{Keep, Reset}
 use Rattle.clifford.specs.declared.Op.{Op}
 use Rattle.clifford.specs.declared.Op.the-variants.{Gate as apply, Measure as measure}
 use Rattle.clifford.specs.Run.{Valid, All-valid}
-use Rattle.circuit.specs.Lines.{found, is-digit, digits, number, with-one, with-two, qubits, named, names, op-line}
+use Rattle.circuit.specs.Lines.{found, is-digit, digits, number, with-one, with-two, numbers, named, names, op-line}
 use Rattle.circuit.specs.Text.{Circuit, all-below, apart, checked, ends, operations, header, meaning}
 use Rattle.circuit.proofs.Digits.{digits-more, number-starts}
 use Rattle.checking.proofs.Meant.{meaning-read}
@@ -68,14 +69,14 @@ module _ (c : ℕ) (rest : List ℕ) (e : is-digit c ≡ false) where
   number-written v h = by-size v (ltb v 10) (ltb v 100) refl refl h
 
 -- a line
-one-name : (g : One) (t : List ℕ) → named names (one-letter g ∷ t) ≡ qubits (with-one (λ a. apply (one g a))) t
+one-name : (g : One) (t : List ℕ) → named names (one-letter g ∷ 32 ∷ t) ≡ numbers (with-one (λ a. apply (one g a))) t
 one-name H t = refl
 one-name S t = refl
 one-name PauliX t = refl
 one-name PauliY t = refl
 one-name PauliZ t = refl
 
-two-name : (g : Two) (t : List ℕ) → named names (67 ∷ two-letter g ∷ t) ≡ qubits (with-two (λ a b. apply (two g a b))) t
+two-name : (g : Two) (t : List ℕ) → named names (67 ∷ two-letter g ∷ 32 ∷ t) ≡ numbers (with-two (λ a b. apply (two g a b))) t
 two-name Cx t = refl
 two-name Cz t = refl
 
@@ -85,44 +86,47 @@ one-shape a rest = simp append-assoc
 two-shape : (a b : ℕ) (rest : List ℕ) → ((qubit-text a ++ qubit-text b) ++ 10 ∷ []) ++ rest ≡ 32 ∷ (short-decimal a ++ 32 ∷ (short-decimal b ++ 10 ∷ rest))
 two-shape a b rest = simp append-assoc
 
-one-read : (f : ℕ → Op) (a : ℕ) (s rest : List ℕ) → a < 1000 → named names s ≡ qubits (with-one f) (32 ∷ (short-decimal a ++ 10 ∷ rest)) → op-line s ≡ found (f a) rest
+one-read : (f : ℕ → Op) (a : ℕ) (s rest : List ℕ) → a < 1000 → named names s ≡ numbers (with-one f) (short-decimal a ++ 10 ∷ rest) → op-line s ≡ found (f a) rest
 one-read f a s rest h n = rw (n, number-written 10 rest refl a h)
 
 two-read :
     (f : ℕ → ℕ → Op) (a b : ℕ) (s rest : List ℕ)
-    → a < 1000 → b < 1000 → named names s ≡ qubits (with-two f) (32 ∷ (short-decimal a ++ 32 ∷ (short-decimal b ++ 10 ∷ rest))) → op-line s ≡ found (f a b) rest
+    → a < 1000 → b < 1000 → named names s ≡ numbers (with-two f) (short-decimal a ++ 32 ∷ (short-decimal b ++ 10 ∷ rest)) → op-line s ≡ found (f a b) rest
 two-read f a b s rest h k n = rw (n, number-written 32 (short-decimal b ++ 10 ∷ rest) refl a h, number-written 10 rest refl b k)
 
 pub line-written : (op : Op) (rest : List ℕ) → Small op → op-line (line-text op ++ rest) ≡ found op rest
 line-written (apply (one g a)) rest h =
     one-read (λ k. apply (one g k)) a (line-text (apply (one g a)) ++ rest) rest h
-    (one-name g ((qubit-text a ++ 10 ∷ []) ++ rest) ∙ ap (qubits (with-one (λ k. apply (one g k)))) (one-shape a rest))
+    (ap (λ (t : List ℕ). named names (one-letter g ∷ t)) (one-shape a rest) ∙ one-name g (short-decimal a ++ 10 ∷ rest))
 line-written (apply (two g a b)) rest h =
     two-read (λ k l. apply (two g k l)) a b (line-text (apply (two g a b)) ++ rest) rest (h .0) (h .1)
-    (two-name g (((qubit-text a ++ qubit-text b) ++ 10 ∷ []) ++ rest) ∙ ap (qubits (with-two (λ k l. apply (two g k l)))) (two-shape a b rest))
-line-written (measure a) rest h =
-    one-read measure a (line-text (measure a) ++ rest) rest h (ap (qubits (with-one measure)) (one-shape a rest))
+    (ap (λ (t : List ℕ). named names (67 ∷ two-letter g ∷ t)) (two-shape a b rest) ∙ two-name g (short-decimal a ++ 32 ∷ (short-decimal b ++ 10 ∷ rest)))
+line-written (measure Keep a) rest h =
+    one-read (measure Keep) a (line-text (measure Keep a) ++ rest) rest h (ap (λ (t : List ℕ). named names (77 ∷ t)) (one-shape a rest))
+line-written (measure Reset a) rest h =
+    one-read (measure Reset) a (line-text (measure Reset a) ++ rest) rest h (ap (λ (t : List ℕ). named names (77 ∷ 82 ∷ t)) (one-shape a rest))
 
 -- the lines
 line-starts : (op : Op) (rest : List ℕ) → ends (line-text op ++ rest) ≡ false
 line-starts (apply (one g a)) rest = refl
 line-starts (apply (two g a b)) rest = refl
-line-starts (measure a) rest = refl
+line-starts (measure Keep a) rest = refl
+line-starts (measure Reset a) rest = refl
 
 pub valid-small : (n : ℕ) (op : Op) → n ≤ 1000 → Valid n op → Small op
 valid-small n (apply (one g a)) h v = omega arith
 valid-small n (apply (two g a b)) h v = (omega (arith, v .0), omega (arith, v .1))
-valid-small n (measure a) h v = omega arith
+valid-small n (measure f a) h v = omega arith
 
 valid-below : (n : ℕ) (op : Op) → Valid n op → all-below n op ≡ true
 valid-below n (apply (one g a)) v = lt-ltb a n v
 valid-below n (apply (two g a b)) v = rw (lt-ltb a n (v .0), lt-ltb b n (v .1))
-valid-below n (measure a) v = lt-ltb a n v
+valid-below n (measure f a) v = lt-ltb a n v
 
 valid-apart : (n : ℕ) (op : Op) → Valid n op → apart op ≡ true
 valid-apart n (apply (one g a)) v = refl
 valid-apart n (apply (two g a b)) v = rw (ne-eqb a b (v .2))
-valid-apart n (measure a) v = refl
+valid-apart n (measure f a) v = refl
 
 valid-checked : (n line : ℕ) (op : Op) → Valid n op → checked n line op ≡ accepted op
 valid-checked n line op v = rw (valid-below n op v, valid-apart n op v)

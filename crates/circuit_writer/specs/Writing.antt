@@ -6,6 +6,7 @@ use lib.Dec.{ltb}
 use Rattle.clifford.specs.declared.Two.{Two}
 use Rattle.clifford.specs.declared.Two.the-variants.{Cx, Cz}
 use Rattle.clifford.specs.declared.Gate.the-variants.{One as one, Two as two}
+use Rattle.clifford.specs.declared.After.the-variants.{Keep, Reset}
 use Rattle.clifford.specs.declared.Op.{Op}
 use Rattle.clifford.specs.declared.Op.the-variants.{Gate as apply, Measure as measure}
 use Rattle.clifford.specs.Named.{one-letter}
@@ -27,7 +28,8 @@ two-letter Cz = 90
 abbrev pub name-text : Op → List ℕ
 name-text (apply (one g a)) = one-letter g ∷ []
 name-text (apply (two g a b)) = 67 ∷ two-letter g ∷ []
-name-text (measure a) = 77 ∷ []
+name-text (measure Keep a) = 77 ∷ []
+name-text (measure Reset a) = 77 ∷ 82 ∷ []
 
 abbrev pub qubit-text : ℕ → List ℕ
 qubit-text a = space ∷ short-decimal a
@@ -35,7 +37,7 @@ qubit-text a = space ∷ short-decimal a
 abbrev pub qubits-text : Op → List ℕ
 qubits-text (apply (one g a)) = qubit-text a
 qubits-text (apply (two g a b)) = qubit-text a ++ qubit-text b
-qubits-text (measure a) = qubit-text a
+qubits-text (measure f a) = qubit-text a
 
 abbrev pub line-text : Op → List ℕ
 line-text op = name-text op ++ qubits-text op ++ end-byte ∷ []

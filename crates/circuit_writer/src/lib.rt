@@ -4,6 +4,7 @@ ghost use Prim.Native.Nat.{_+_, _≤_, _<_};
 ghost use lib.ListN.{length};
 ghost use Rattle.circuit_writer.specs.Writing.{short-decimal, two-letter, name-text, qubit-text, qubits-text, line-text, header-text};
 ghost use Rattle.circuit_writer.specs.parts.Storing.{Small, Stores, Puts};
+use clifford::After;
 use clifford::Gate;
 use clifford::Op;
 use clifford::Two;
@@ -60,9 +61,15 @@ fn put_name(out: &mut [u8], at: usize, op: Op) -> usize
                 at + 2
             }
         },
-        Op::Measure(_) => {
+        Op::Measure(after, _) => {
             out[at] = 77;
-            at + 1
+            match after {
+                After::Keep => at + 1,
+                After::Reset => {
+                    out[at + 1] = 82;
+                    at + 2
+                }
+            }
         }
     }
 }
@@ -79,7 +86,7 @@ fn put_qubits(out: &mut [u8], at: usize, op: Op) -> usize
                 put_qubit(out, next, b)
             }
         },
-        Op::Measure(a) => put_qubit(out, at, a),
+        Op::Measure(_, a) => put_qubit(out, at, a),
     }
 }
 

@@ -1,24 +1,27 @@
 -- Four runs of one circuit whose coins are alike are alike throughout: the same letters, kinds and refusal, and each outcome and row sign of the
 -- fourth is the exclusive or of the other three. This carries demand 3. Assumes nothing.
 use mathlib.Core.Path.{_≡_, refl, sym, _∙_, ap, ap₂}
-use mathlib.Core.Bool.{Bool, true, false, cond}
+use mathlib.Core.Bool.{Bool, true, false, _&&_, cond}
 use mathlib.Core.List.{List, [], _∷_, _++_}
 use mathlib.Core.Option.{Option, none, some}
 use Prim.Native.Nat.{ℕ, zero, suc}
 use lib.Dec.{eqb}
 use Rattle.answers.specs.Verdict.{Verdict, accepted, refused, then}
-use Rattle.pauli.specs.Letters.{_⊕_, x, Power, i0, _⊞_, sign}
+use Rattle.pauli.specs.Letters.{_⊕_, x, z, Power, i0, _⊞_, sign}
 use Rattle.pauli.specs.Rows.{Row, Phased, mul, total, product, phased, minus-sign, times-row}
 use Rattle.pauli.proofs.Cases.{tested, bit, pow}
 use Rattle.pauli.proofs.RowLaws.{times-minus}
 use Rattle.clifford.specs.declared.Gate.{Gate}
+use Rattle.clifford.specs.declared.After.{After}
+use Rattle.clifford.specs.declared.After.the-variants.{Keep, Reset}
 use Rattle.clifford.specs.declared.Op.{Op}
 use Rattle.clifford.specs.declared.Op.the-variants.{Gate as apply, Measure as measure}
 use Rattle.clifford.specs.Gates.{turns, new, gate}
 use Rattle.clifford.specs.Tableau.{Rows}
 use Rattle.answers.specs.First.{lowest}
-use Rattle.clifford.specs.Measurement.{random-row, cleared, collapsed, gathered, fixed-value, Outcome}
-use Rattle.clifford.specs.Run.{State, coin, settle, step, run}
+use Rattle.clifford.specs.Measurement.{random-row, cleared, collapsed, gathered, fixed-value, Outcome, Answer}
+use Rattle.clifford.specs.Run.{State, coin, afterwards, concluded, settle, step, run}
+use Rattle.clifford.proofs.Afterwards.{turned, afterwards-turns}
 
 -- four rows of the same letters, the last of whose signs is the sum of the others'
 pub record Row-alike (a b c d : Row) : Type 0 where
@@ -165,16 +168,32 @@ alike-fixed n q m =
     law : (s t u : Bool) (p : Power) → minus-sign (sign (s ⊕ t ⊕ u) ⊞ p) ≡ minus-sign (sign s ⊞ p) ⊕ minus-sign (sign t ⊞ p) ⊕ minus-sign (sign u ⊞ p)
     law = tested (bit ∷ bit ∷ bit ∷ pow ∷ []) bit _ _ tt
 
-one-more : {a b c d : List Outcome} {e f g h : Outcome} → All-alike Outcome-alike a b c d → Outcome-alike e f g h → All-alike Outcome-alike (a ++ (e ∷ [])) (b ++ (f ∷ [])) (c ++ (g ∷ [])) (d ++ (h ∷ []))
-one-more q r = joined q (more r done)
+alike-turned : (f : After) (q : ℕ) {a b c d : Row} → Row-alike a b c d → {e g h o : Bool} → Bits-alike e g h o → Row-alike (turned f q e a) (turned f q g b) (turned f q h c) (turned f q o d)
+alike-turned Keep q m u = m
+alike-turned Reset q {a} {b} {c} {d} m {e} {g} {h} u = record {
+  second = m .second;
+  third = m .third;
+  fourth = m .fourth;
+  signs = rw (m .signs, m .second, m .third, m .fourth, u .is) (law (a .minus) (b .minus) (c .minus) e g h (z (a .letters q)));
+}
+  where
+    law : (p q r e g h l : Bool) → p ⊕ q ⊕ r ⊕ ((e ⊕ g ⊕ h) && l) ≡ p ⊕ (e && l) ⊕ (q ⊕ (g && l)) ⊕ (r ⊕ (h && l))
+    law = tested (bit ∷ bit ∷ bit ∷ bit ∷ bit ∷ bit ∷ bit ∷ []) bit _ _ tt
 
-alike-settle : (n line q : ℕ) {a b c d : State} → State-alike a b c d → (o : Option ℕ) {e f g h : List ℕ} → All-alike Coin-alike e f g h
-    → Alike (settle n line q a o e) (settle n line q b o f) (settle n line q c o g) (settle n line q d o h)
-alike-settle n line q m none u =
-    all-accepted (record { outcomes = one-more (m .outcomes) (record { second = refl; third = refl; fourth = refl; values = alike-fixed n q (m .rows) }); rows = m .rows; coins = u })
-alike-settle n line q m (some p) done = all-refused
-alike-settle n line q m (some p) (more r u) =
-    all-accepted (record { outcomes = one-more (m .outcomes) (record { second = refl; third = refl; fourth = refl; values = r .is }); rows = alike-collapsed n q p r (m .rows); coins = u })
+alike-afterwards : (f : After) (q : ℕ) {a b c d : Rows} → Rows-alike a b c d → {e g h o : Bool} → Bits-alike e g h o → Rows-alike (afterwards f q e a) (afterwards f q g b) (afterwards f q h c) (afterwards f q o d)
+alike-afterwards f q {a} {b} {c} {d} m {e} {g} {h} {o} u =
+    rw (afterwards-turns f q e a, afterwards-turns f q g b, afterwards-turns f q h c, afterwards-turns f q o d)
+    (record { destabilizers = λ i. alike-turned f q (m .destabilizers i) u; stabilizers = λ i. alike-turned f q (m .stabilizers i) u })
+
+alike-concluded : (f : After) (q : ℕ) {a b c d : State} → State-alike a b c d → {t t₂ t₃ t₄ : Answer} → Rows-alike (t .after) (t₂ .after) (t₃ .after) (t₄ .after) → Outcome-alike (t .outcome) (t₂ .outcome) (t₃ .outcome) (t₄ .outcome)
+    → {k l w o : List ℕ} → All-alike Coin-alike k l w o → State-alike (concluded f q a t k) (concluded f q b t₂ l) (concluded f q c t₃ w) (concluded f q d t₄ o)
+alike-concluded f q m r v u = record { outcomes = joined (m .outcomes) (more v done); rows = alike-afterwards f q r (record { is = v .values }); coins = u }
+
+alike-settle : (n line : ℕ) (f : After) (q : ℕ) {a b c d : State} → State-alike a b c d → (o : Option ℕ) {e g h k : List ℕ} → All-alike Coin-alike e g h k
+    → Alike (settle n line f q a o e) (settle n line f q b o g) (settle n line f q c o h) (settle n line f q d o k)
+alike-settle n line f q m none u = all-accepted (alike-concluded f q m (m .rows) (record { second = refl; third = refl; fourth = refl; values = alike-fixed n q (m .rows) }) u)
+alike-settle n line f q m (some p) done = all-refused
+alike-settle n line f q m (some p) (more r u) = all-accepted (alike-concluded f q m (alike-collapsed n q p r (m .rows)) (record { second = refl; third = refl; fourth = refl; values = r .is }) u)
 
 pub alike-step : (n line : ℕ) (op : Op) {a b c d : State} → State-alike a b c d → Alike (step n line op a) (step n line op b) (step n line op c) (step n line op d)
 alike-step n line (apply g) m =
@@ -183,9 +202,9 @@ alike-step n line (apply g) m =
       rows = record { destabilizers = λ i. alike-gate g (m .rows .destabilizers i); stabilizers = λ i. alike-gate g (m .rows .stabilizers i) };
       coins = m .coins;
     })
-alike-step n line (measure q) {a} {b} {c} {d} m =
+alike-step n line (measure f q) {a} {b} {c} {d} m =
     rw (test b (λ i. m .rows .stabilizers i .second), test c (λ i. m .rows .stabilizers i .third), test d (λ i. m .rows .stabilizers i .fourth))
-    (alike-settle n line q m (random-row n q (a .rows)) (m .coins))
+    (alike-settle n line f q m (random-row n q (a .rows)) (m .coins))
   where
     test : (b : State) → ((i : ℕ) → b .rows .stabilizer i .letters ≡ a .rows .stabilizer i .letters) → random-row n q (b .rows) ≡ random-row n q (a .rows)
     test b w = λ j. lowest (λ i. x (w i j q)) n

@@ -1,10 +1,14 @@
 pub mod GateLaws
 pub mod Pairing
+pub mod Afterwards
 pub mod Start
 pub mod Dependent
 pub mod Choices
 pub mod Spanning
 pub mod Fixed
+pub mod Again
+pub mod Resetting
+pub mod Merged
 pub mod Running
 pub mod Alike
 pub mod Named

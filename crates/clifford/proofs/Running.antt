@@ -12,10 +12,11 @@ use Rattle.pauli.proofs.RowLaws.{times-phased}
 use Rattle.clifford.specs.declared.Op.{Op}
 use Rattle.clifford.specs.declared.Op.the-variants.{Gate as apply, Measure as measure}
 use Rattle.clifford.specs.Tableau.{Rows, Paired}
-use Rattle.clifford.specs.Measurement.{has-x, random-row, cleared, collapsed}
+use Rattle.clifford.specs.Measurement.{has-x, random-row, cleared, collapsed, fixed-value}
 use Rattle.clifford.specs.Run.{State, coin, settle, step, run, Valid, All-valid}
 use Rattle.answers.proofs.First.{Answer, lowest-is}
 use Rattle.clifford.proofs.Pairing.{gate-paired, collapsed-paired}
+use Rattle.clifford.proofs.Afterwards.{afterwards-paired}
 
 -- a row that is multiplied commutes with row p, so its sign is that of the product with its power of i
 cleared-phased : (n a : ℕ) (p r : Row) → anticommute n (r .letters) (p .letters) ≡ false → phased (cleared n a p r) ≡ cond (has-x a r) (product n (phased r) (phased p)) (phased r)
@@ -42,12 +43,12 @@ Good n (refused number place) = Unit {0}
 
 pub step-good : (n line : ℕ) (op : Op) (s : State) → Valid n op → Paired n (s .rows) → Good n (step n line op s)
 step-good n line (apply g) s v k = gate-paired n g (s .rows) v k
-step-good n line (measure a) s v k = go (random-row n a (s .rows)) (s .coins) (lowest-is (λ i. has-x a (s .rows .stabilizer i)) n)
+step-good n line (measure f a) s v k = go (random-row n a (s .rows)) (s .coins) (lowest-is (λ i. has-x a (s .rows .stabilizer i)) n)
   where
-    go : (o : Option ℕ) (coins : List ℕ) → Answer (λ i. has-x a (s .rows .stabilizer i)) n o → Good n (settle n line a s o coins)
-    go none coins l = k
+    go : (o : Option ℕ) (coins : List ℕ) → Answer (λ i. has-x a (s .rows .stabilizer i)) n o → Good n (settle n line f a s o coins)
+    go none coins l = afterwards-paired n f a (fixed-value n a (s .rows)) (s .rows) v k
     go (some p) [] l = tt
-    go (some p) (byte ∷ coins) l = collapsed-paired n a p (coin byte) (s .rows) v (l .below) (l .passes) k
+    go (some p) (byte ∷ coins) l = afterwards-paired n f a (coin byte) (collapsed n a p (coin byte) (s .rows)) v (collapsed-paired n a p (coin byte) (s .rows) v (l .below) (l .passes) k)
 
 pub run-good : (n line : ℕ) (ops : List Op) (s : State) → All-valid n ops → Paired n (s .rows) → Good n (run n line ops s)
 run-good n line [] s v k = k

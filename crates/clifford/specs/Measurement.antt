@@ -1,5 +1,5 @@
 -- The measurement of a qubit: document 01, "M a", random or fixed. Assumes nothing.
-use mathlib.Core.Bool.{Bool, cond}
+use mathlib.Core.Bool.{Bool, true, false, cond}
 use mathlib.Core.Option.{Option}
 use Prim.Native.Nat.{ℕ, zero, suc}
 use lib.Dec.{eqb}
@@ -44,3 +44,16 @@ fixed-value n a t = minus-sign (gathered n a t n .phase)
 pub record Outcome : Type 0 where
   pub random : Bool
   pub value : Bool
+
+-- what a measurement comes to: the rows after it, and its outcome
+pub record Answer : Type 0 where
+  pub after : Rows
+  pub outcome : Outcome
+
+-- random at row p: the outcome is the coin
+abbrev pub random-answer : ℕ → ℕ → ℕ → Bool → Rows → Answer
+random-answer n a p coin t = record { after = collapsed n a p coin t; outcome = record { random = true; value = coin } }
+
+-- fixed: no row changes
+abbrev pub fixed-answer : ℕ → ℕ → Rows → Answer
+fixed-answer n a t = record { after = t; outcome = record { random = false; value = fixed-value n a t } }

@@ -1,4 +1,4 @@
-// The eight operations of a circuit: five gates on one qubit, two on two, and the measurement. Their rules are in specs/.
+// The nine operations of a circuit: five gates on one qubit, two on two, the measurement, and the measurement with a reset. Their rules are in specs/.
 ghost use mathlib.Core.Path.{_≡_};
 ghost use Rattle.clifford.specs.Named.{one-letter};
 
@@ -21,9 +21,15 @@ pub enum Gate {
     Two(Two, usize, usize),
 }
 
+// What becomes of a qubit once it is measured: M keeps it, MR resets it.
+pub enum After {
+    Keep,
+    Reset,
+}
+
 pub enum Op {
     Gate(Gate),
-    Measure(usize),
+    Measure(After, usize),
 }
 
 // The letter of a gate on one qubit.

@@ -45,8 +45,8 @@ line-within n line a o h l v =
 lines-within : (n line : ℕ) (ops : List Op) (outcomes : List Outcome) → n ≤ 64 → All-valid n ops → line + length ops ≤ 4098 → length (outcome-lines line ops outcomes) ≤ 17 * length ops
 lines-within n line [] outcomes h v l = omega arith
 lines-within n line (apply g ∷ ops) outcomes h v l = omega (arith, lines-within n (suc line) ops outcomes h (v .1) (omega arith))
-lines-within n line (measure a ∷ ops) [] h v l = omega arith
-lines-within n line (measure a ∷ ops) (o ∷ outcomes) h v l =
+lines-within n line (measure f a ∷ ops) [] h v l = omega arith
+lines-within n line (measure f a ∷ ops) (o ∷ outcomes) h v l =
     omega (arith, line-within n line a o h (omega arith) (v .0), lines-within n (suc line) ops outcomes h (v .1) (omega arith), length-append (outcome-line line a o) (outcome-lines (suc line) ops outcomes))
 
 group-length : (n : ℕ) (f : ℕ → Row) → length (joined (listed (λ i. row-line n (f i)) n)) ≡ n * (n + 2)

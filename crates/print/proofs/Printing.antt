@@ -45,13 +45,13 @@ line-length line a o =
 
 op-few : (line : ℕ) (op : Op) (o : Outcome) → length (op-text line op o) ≤ 51
 op-few line (apply g) o = omega arith
-op-few line (measure a) o = omega (arith, line-length line a o, digits-few 20 line, digits-few 20 a, kind-few (o .random))
+op-few line (measure f a) o = omega (arith, line-length line a o, digits-few 20 line, digits-few 20 a, kind-few (o .random))
 
 -- one operation's line, and those behind it
 op-first : (line : ℕ) (op : Op) (ops : List Op) (sheet : List ℕ) (k : ℕ) → k < length sheet
     → outcome-lines line (op ∷ ops) (map outcome-told (drop k sheet)) ≡ op-text line op (outcome-told (getD sheet k 0)) ++ outcome-lines (suc line) ops (map outcome-told (drop (k + measures op) sheet))
 op-first line (apply g) ops sheet k h = ap (λ (m : ℕ). outcome-lines (suc line) ops (map outcome-told (drop m sheet))) (sym (add-zero k))
-op-first line (measure a) ops sheet k h = ap (λ (s : List ℕ). outcome-lines line (measure a ∷ ops) (map outcome-told s)) (front sheet k h)
+op-first line (measure f a) ops sheet k h = ap (λ (s : List ℕ). outcome-lines line (measure f a ∷ ops) (map outcome-told s)) (front sheet k h)
 
 pub record Printing (text : List ℕ) (body n : ℕ) (sheet old out : List ℕ) (at line k next : ℕ) : Type 0 where
   pub ops : List Op

@@ -33,8 +33,8 @@ marks-lines : (line : ℕ) (ops : List Op) (outcomes : List Outcome) (rest : Lis
     → outcome-lines line ops (map outcome-told (map mark outcomes ++ rest)) ≡ outcome-lines line ops outcomes
 marks-lines line [] outcomes rest h = refl
 marks-lines line (apply g ∷ ops) outcomes rest h = marks-lines (suc line) ops outcomes rest (omega arith)
-marks-lines line (measure a ∷ ops) [] rest h = absurd (omega arith)
-marks-lines line (measure a ∷ ops) (o ∷ outcomes) rest h =
+marks-lines line (measure f a ∷ ops) [] rest h = absurd (omega arith)
+marks-lines line (measure f a ∷ ops) (o ∷ outcomes) rest h =
     ap₂ (λ (p : Outcome) (s : List ℕ). outcome-line line a p ++ s) (mark-back (o .random) (o .value)) (marks-lines (suc line) ops outcomes rest (omega arith))
 
 -- rows of one kind, which stand end to end

@@ -22,8 +22,8 @@ use Rattle.print_lines.specs.Line.{outcome-line, refusal-line}
 abbrev pub outcome-lines : ℕ → List Op → List Outcome → List ℕ
 outcome-lines line [] outcomes = []
 outcome-lines line (apply g ∷ ops) outcomes = outcome-lines (suc line) ops outcomes
-outcome-lines line (measure a ∷ ops) [] = []
-outcome-lines line (measure a ∷ ops) (o ∷ outcomes) = outcome-line line a o ++ outcome-lines (suc line) ops outcomes
+outcome-lines line (measure f a ∷ ops) [] = []
+outcome-lines line (measure f a ∷ ops) (o ∷ outcomes) = outcome-line line a o ++ outcome-lines (suc line) ops outcomes
 
 abbrev pub row-line : ℕ → Row → List ℕ
 row-line n r = row-text n r ++ (end-byte ∷ [])

@@ -1,11 +1,9 @@
 // Prints a run: the circuit is run into a record, and the lines of the record are put into the lent buffer once they are known to fit. The input
 // of the program `shot` holds the coins in its first line and the circuit behind it.
-ghost use mathlib.Core.Path.{_≡_};
 ghost use Prim.Native.Nat.{_+_, _≤_};
 ghost use lib.ListN.{length};
 ghost use Rattle.answers.specs.Verdict.{accepted};
 ghost use Rattle.answers.specs.Refusals.{Writes};
-ghost use Rattle.circuit.specs.Text.{measures};
 ghost use Rattle.circuit_writer.specs.parts.Storing.{Stores};
 ghost use Rattle.walking.specs.parts.Walk.{lines-of};
 ghost use Rattle.print.specs.Printed.{printed, Recorded, too-long, shot-printed};
@@ -22,22 +20,13 @@ enum Shape {
     Refused(usize, usize),
 }
 
-fn measured(op: Op) -> usize
-    ensures { λ r. ⌜ r ≡ measures op ⌝ }
-{
-    match op {
-        Op::Gate(_) => 0,
-        Op::Measure(_) => 1,
-    }
-}
-
 fn put_op(out: &mut [u8], at: usize, line: usize, op: Op, mark: u8) -> usize
     requires { ⌜ at + 51 ≤ 1000000 ⌝ }
     ensures { λ r. ⌜ Stores (op-text line op (outcome-told mark)) (now (out .entry)) at (now (out .exit)) r ⌝ }
 {
     match op {
         Op::Gate(_) => at,
-        Op::Measure(a) => {
+        Op::Measure(_, a) => {
             let random = 50 <= mark;
             let value = mark % 2 == 1;
             print_lines::put_outcome(out, at, line, a, random, value)
@@ -57,7 +46,7 @@ fn put_run(out: &mut [u8], text: &[u8], body: usize, n: usize, sheet: &[u8]) -> 
         match circuit::line_at(text, at) {
             Line::Op(op, behind) => {
                 next = put_op(out, next, line, op, sheet[k]);
-                k += measured(op);
+                k += circuit::one_if_measure(op);
                 at = behind;
                 line += 1;
             }

@@ -1,15 +1,17 @@
 -- No operation line is longer than eleven bytes. Assumes nothing.
 use mathlib.Core.Bool.{Bool, true, false, cond}
-use mathlib.Core.List.{List, [], _∷_}
+use mathlib.Core.List.{List, [], _∷_, _++_}
 use mathlib.Core.Option.{Option, none, some}
-use mathlib.Core.Path.{_≡_, refl, ap}
+use mathlib.Core.Path.{_≡_, refl, _∙_, ap}
 use Prim.Native.Nat.{ℕ, zero, suc, _+_, _-_, _*_, _≤_}
 use native.Mathlib.Omega.{arith}
 use lib.Dec.{eqb}
-use lib.ListN.{length, drop, length-drop}
+use lib.ListN.{length, drop, length-append, length-drop}
 use Rattle.clifford.specs.declared.Op.{Op}
-use Rattle.circuit.specs.Lines.{Found, found, malformed, then-read, strip, closed-by, end-byte, space, is-digit, digits, number, Form, with-one, with-two, Name, names, qubit, qubits, named, op-line}
+use Rattle.circuit.specs.Lines.{Found, found, malformed, then-read, strip, closed-by, end-byte, space, is-digit, digits, number, Form, with-one, with-two, Name, names, qubit, numbers, named, op-line}
 use Rattle.circuit.specs.parts.Reading.{Stands}
+use Rattle.circuit.proofs.Positions.{stripped}
+use Rattle.circuit.proofs.Names.{or-else}
 
 -- r is found, and no more than k of the bytes s stand before what is left
 abbrev Within : {A : Type 0} → ℕ → List ℕ → Found A → Type 0
@@ -43,14 +45,8 @@ number-within (c ∷ s) = go (eqb c 48) (is-digit c)
     go false false = tt
 
 -- what stands before the rest
-stripped : (bs s rest : List ℕ) → strip bs s ≡ some rest → length s ≡ length bs + length rest
-stripped [] s rest e = let q : s ≡ rest = cc in omega (arith, ap length q)
-stripped (b ∷ bs) [] rest e = absurd (let z : _≡_ {A = ℕ} 0 1 = cc in omega arith)
-stripped (b ∷ bs) (c ∷ s) rest e = go (eqb b c) e (stripped bs s rest)
-  where
-    go : (t : Bool) → cond t (strip bs s) none ≡ some rest → (strip bs s ≡ some rest → length s ≡ length bs + length rest) → suc (length s) ≡ suc (length bs) + length rest
-    go true q ih = omega (arith, ih q)
-    go false q ih = absurd (let z : _≡_ {A = ℕ} 0 1 = cc in omega arith)
+front-length : (bs s rest : List ℕ) → strip bs s ≡ some rest → length s ≡ length bs + length rest
+front-length bs s rest e = ap length (stripped bs s rest e) ∙ length-append bs rest
 
 behind : {A : Type 0} (k : ℕ) (bs s rest : List ℕ) (r : Found A) → length s ≡ length bs + length rest → Within k rest r → Within (length bs + k) s r
 behind k bs s rest (found a t) e w = omega arith
@@ -60,7 +56,7 @@ qubit-within : (s : List ℕ) → Within 4 s (qubit s)
 qubit-within s = go (strip (space ∷ []) s) refl
   where
     go : (o : Option (List ℕ)) → strip (space ∷ []) s ≡ o → Within {A = ℕ} 4 s (elim o [ some rest ↦ number rest | none ↦ malformed ])
-    go (some rest) e = behind 3 (space ∷ []) s rest (number rest) (stripped (space ∷ []) s rest e) (number-within rest)
+    go (some rest) e = behind 3 (space ∷ []) s rest (number rest) (front-length (space ∷ []) s rest e) (number-within rest)
     go none e = tt
 
 and-then : {A B : Type 0} (k m : ℕ) (s : List ℕ) (r : Found A) (f : A → List ℕ → Found B) → Within k s r → ((a : A) (t : List ℕ) → Within m t (f a t)) → Within (k + m) s (then-read r f)
@@ -71,10 +67,10 @@ and-then {B = B} k m s (found a rest) f w h = go (f a rest) (h a rest)
     go malformed v = tt
 and-then k m s malformed f w h = tt
 
-qubits-within : (g : Form) (s : List ℕ) → Within 8 s (qubits g s)
-qubits-within (with-one f) s = more 4 8 s (qubits (with-one f) s) (omega arith) (and-then 4 0 s (qubit s) (λ a rest. found (f a) rest) (qubit-within s) (λ a t. omega arith))
-qubits-within (with-two f) s =
-    and-then 4 4 s (qubit s) (λ a rest. then-read (qubit rest) (λ b more. found (f a b) more)) (qubit-within s)
+numbers-within : (g : Form) (s : List ℕ) → Within 7 s (numbers g s)
+numbers-within (with-one f) s = more 3 7 s (numbers (with-one f) s) (omega arith) (and-then 3 0 s (number s) (λ a rest. found (f a) rest) (number-within s) (λ a t. omega arith))
+numbers-within (with-two f) s =
+    and-then 3 4 s (number s) (λ a rest. then-read (qubit rest) (λ b more. found (f a b) more)) (number-within s)
     (λ a t. and-then 4 0 t (qubit t) (λ b more. found (f a b) more) (qubit-within t) (λ b u. omega arith))
 
 -- names of one or two bytes
@@ -84,26 +80,26 @@ Small (e ∷ es) = (length (e .spelled) ≤ 2) × Small es
 
 named-within : (es : List Name) (s : List ℕ) → Small es → Within 10 s (named es s)
 named-within [] s h = tt
-named-within (e ∷ es) s h = go (strip (e .spelled) s) refl (named-within es s (h .1))
+named-within (e ∷ es) s h = go (strip (e .spelled ++ space ∷ []) s) refl (named-within es s (h .1))
   where
-    go : (o : Option (List ℕ)) → strip (e .spelled) s ≡ o → Within 10 s (named es s) → Within {A = Op} 10 s (elim o [ some rest ↦ qubits (e .form) rest | none ↦ named es s ])
+    go : (o : Option (List ℕ)) → strip (e .spelled ++ space ∷ []) s ≡ o → Within 10 s (named es s) → Within 10 s (or-else (e .form) o (named es s))
     go (some rest) q w =
-        more (length (e .spelled) + 8) 10 s (qubits (e .form) rest) (omega (arith, h .0))
-        (behind 8 (e .spelled) s rest (qubits (e .form) rest) (stripped (e .spelled) s rest q) (qubits-within (e .form) rest))
+        more (length (e .spelled ++ space ∷ []) + 7) 10 s (numbers (e .form) rest) (omega (arith, h .0, length-append (e .spelled) (space ∷ [])))
+        (behind 7 (e .spelled ++ space ∷ []) s rest (numbers (e .form) rest) (front-length (e .spelled ++ space ∷ []) s rest q) (numbers-within (e .form) rest))
     go none q w = w
 
 closed-within : {A : Type 0} (a : A) (s : List ℕ) → Within 1 s (closed-by (end-byte ∷ []) a s)
 closed-within {A} a s = go (strip (end-byte ∷ []) s) refl
   where
     go : (o : Option (List ℕ)) → strip (end-byte ∷ []) s ≡ o → Within {A = A} 1 s (elim o [ some rest ↦ found a rest | none ↦ malformed ])
-    go (some rest) e = omega (arith, stripped (end-byte ∷ []) s rest e)
+    go (some rest) e = omega (arith, front-length (end-byte ∷ []) s rest e)
     go none e = tt
 
 line-within : (s : List ℕ) → Within 11 s (op-line s)
 line-within s = and-then 10 1 s (named names s) (closed-by (end-byte ∷ [])) (named-within names s small) closed-within
   where
     small : Small names
-    small = (omega arith, (omega arith, (omega arith, (omega arith, (omega arith, (omega arith, (omega arith, (omega arith, tt))))))))
+    small = (omega arith, (omega arith, (omega arith, (omega arith, (omega arith, (omega arith, (omega arith, (omega arith, (omega arith, tt)))))))))
 
 pub line-short : (s : List ℕ) (at : ℕ) (op : Op) (next : ℕ) → Stands op-line s at op next → next ≤ at + 11
 line-short s at op next r = go (op-line (drop at s)) (r .reads) (line-within (drop at s))

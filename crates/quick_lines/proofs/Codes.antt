@@ -23,7 +23,7 @@ use Rattle.clifford.specs.Run.{Valid}
 use Rattle.circuit.specs.Lines.{malformed, op-line}
 use Rattle.circuit.specs.Text.{all-below, apart, measures}
 use Rattle.circuit.specs.parts.Reading.{Stands}
-use Rattle.quick_lines.specs.parts.Coded.{op-of, op-in, name-in, first-in, second-in, length-in, Allowed, OpAt}
+use Rattle.quick_lines.specs.parts.Coded.{after-of, op-of, op-in, name-in, first-in, second-in, length-in, Allowed, OpAt}
 use Rattle.circuit.proofs.Walk.{and-left, and-right, valid-op, next-at, never-malformed}
 
 -- the letter of a gate on one qubit is its name in a number
@@ -77,11 +77,11 @@ measures-not name a b h = rw (ne-eqb name 77 h) (sym (gates-measure (eqb name 1)
 
 -- a letter names an operation on one qubit
 module _ (name : ℕ) (h : 2 < name) (n a b : ℕ) where
-  one-below : (m : Bool) → all-below n (cond m (measure a) (apply (one (one-of name) a))) ≡ ltb a n
+  one-below : (m : Bool) → all-below n (cond m (measure (after-of b) a) (apply (one (one-of name) a))) ≡ ltb a n
   one-below true = refl
   one-below false = refl
 
-  one-apart : (m : Bool) → apart (cond m (measure a) (apply (one (one-of name) a))) ≡ true
+  one-apart : (m : Bool) → apart (cond m (measure (after-of b) a) (apply (one (one-of name) a))) ≡ true
   one-apart true = refl
   one-apart false = refl
 
@@ -121,13 +121,13 @@ below-more n m (apply (two g a b)) h e =
     let p = ltb-true a n (and-left (ltb a n) (ltb b n) e) in
     let q = ltb-true b n (and-right (ltb a n) (ltb b n) e) in
     rw (lt-ltb a m (omega (arith, p)), lt-ltb b m (omega (arith, q)))
-below-more n m (measure a) h e = lt-ltb a m (omega (arith, ltb-true a n e))
+below-more n m (measure f a) h e = lt-ltb a m (omega (arith, ltb-true a n e))
 
 -- 4 and 5 refuse no valid operation
 pub valid-passes : (n : ℕ) (op : Op) → Valid n op → (all-below n op && apart op) ≡ true
 valid-passes n (apply (one g a)) v = rw (lt-ltb a n v)
 valid-passes n (apply (two g a b)) v = rw (lt-ltb a n (v .0), lt-ltb b n (v .1), ne-eqb a b (v .2))
-valid-passes n (measure a) v = rw (lt-ltb a n v)
+valid-passes n (measure f a) v = rw (lt-ltb a n v)
 
 module _ (s : List ℕ) (at n : ℕ) where
   pub op-read : (op : Op) (next code : ℕ) → Stands op-line s at op next → all-below n op ≡ true → apart op ≡ true → 0 < code → op-in code ≡ op → length-in code ≡ next - at → OpAt s at n code
@@ -158,7 +158,7 @@ allowed-valid s at n code w = valid-op n (op-in code) (w .below) (w .parted)
 
 -- the operation by the parts of its number
 module _ (code name a : ℕ) (p : name ≡ name-in code) (q : a ≡ first-in code) where
-  pub is-measure : name ≡ 77 → op-in code ≡ measure a
+  pub is-measure : name ≡ 77 → op-in code ≡ measure (after-of (second-in code)) a
   is-measure e = rw (sym p ∙ e, q)
 
   pub is-cx : (b : ℕ) → b ≡ second-in code → name ≡ 1 → op-in code ≡ apply (two Cx a b)

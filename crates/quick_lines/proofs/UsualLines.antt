@@ -10,12 +10,13 @@ use lib.Dec.{leb}
 use lib.ListN.{length, getD, drop}
 use Rattle.clifford.specs.declared.Op.{Op}
 use Rattle.circuit.specs.declared.Line.the-variants as line
-use Rattle.circuit.specs.Lines.{is-digit, number, with-one, with-two, qubit, qubits, names, named, op-line}
-use Rattle.circuit.specs.parts.Reading.{Stands, Has, Spelled}
+use Rattle.circuit.specs.Lines.{space, is-digit, number, with-one, with-two, names, qubit, numbers, named, op-line}
+use Rattle.circuit.specs.Text.{all-below, apart}
+use Rattle.circuit.specs.parts.Reading.{qubits, Stands, Has, Spelled}
 use Rattle.quick_lines.specs.parts.Coded.{op-of, op-in, length-in, digits-by, Ends-by, Allowed}
 use Rattle.circuit.proofs.Positions.{front, strip-same, digit-none}
 use Rattle.circuit.proofs.Digits.{Digit, number-zero, begun, more, stopped}
-use Rattle.circuit.proofs.Names.{name-byte, spelled-one}
+use Rattle.circuit.proofs.Names.{name-byte, spelled-one, spelled-two}
 use Rattle.circuit.proofs.Readings.{closed, spaced, one-line}
 use Rattle.circuit.proofs.Walk.{and-left, and-right}
 use Rattle.quick_lines.proofs.Codes.{letter-below, letter-apart, pairs, pair-below, pair-apart}
@@ -88,6 +89,7 @@ usual-qubit s at stop h e d l q t =
     rw p at (by-width s (at + 1) (omega arith) d (is-digit (getD s (at + 1 + 1) 0)) refl (rw p (leb-true _ _ l)) (rw (p, q) t))
     in
     record {
+      spaced = e;
       stands = record { reads = spaced s at (omega arith, strip-same s at 32 (omega arith) e) ∙ w .reads; after = omega (arith, w .after); within = w .within };
       stops = q;
     }
@@ -97,23 +99,36 @@ module _ (s : List ℕ) (at n : ℕ) (h : at + 9 ≤ length s) where
   ends-at : (next : ℕ) → next < length s → getD s next 0 ≡ 10 → Has s next 10 true
   ends-at next l e = (l, strip-same s next 10 l e)
 
-  pub usual-one : (c a code : ℕ) → getD s at 0 ≡ c → 2 < c → ((t : List ℕ) (b : ℕ) → named names (c ∷ t) ≡ qubits (with-one (λ a. op-of c a b)) t)
+  -- a name of one byte or two that ends here, and one qubit
+  one-qubit : (op : ℕ → Op) (behind a code : ℕ) → behind ≤ at + 2 → Spelled s at (with-one op) behind → Ends-by s behind 10 a → op-in code ≡ op a
+      → at + length-in code ≡ behind + 2 + digits-by (getD s (behind + 2) 0) → all-below n (op a) ≡ true → apart (op a) ≡ true → Allowed s at n code
+  one-qubit op behind a code l sp q o k b d =
+      let w = digits-by (getD s (behind + 2) 0) in
+      let last = behind + 1 + w in
+      let r : Stands op-line s at (op a) (last + 1) =
+      one-line s at op behind a last (line.Op (op a) (last + 1)) sp (q .stands) (closed s last (op a) (ends-at last (omega (arith, digits-few (getD s (behind + 2) 0))) (q .stops)))
+      in
+      let z : at + length-in code ≡ last + 1 = omega (arith, k) in
+      record { stands = rw (o, z) r; below = rw o b; parted = rw o d }
+
+  pub usual-one : (c a code : ℕ) → getD s at 0 ≡ c → 2 < c → ((t : List ℕ) → named names (c ∷ space ∷ t) ≡ numbers (with-one (λ a. op-of c a 0)) t)
       → Ends-by s (at + 1) 10 a → a < n → op-in code ≡ op-of c a 0 → length-in code ≡ 3 + digits-by (getD s (at + 3) 0) → Allowed s at n code
   usual-one c a code e l names-it q m o k =
       let p : at + 1 + 2 ≡ at + 3 = omega arith in
-      let w = digits-by (getD s (at + 3) 0) in
-      let st : Stands qubit s (at + 1) a (at + 1 + 1 + w) = rw p at (q .stands) in
-      let en : getD s (at + 1 + 1 + w) 0 ≡ 10 = rw p at (q .stops) in
-      let sp : Spelled s at (with-one (λ x. op-of c x 0)) 1 = spelled-one s at (with-one (λ x. op-of c x 0)) c (omega arith) e (λ t. names-it t 0) in
-      let r : Stands op-line s at (op-of c a 0) (at + 1 + 1 + w + 1) =
-      one-line s at (λ x. op-of c x 0) a (at + 1 + 1 + w) (line.Op (op-of c a 0) (at + 1 + 1 + w + 1)) sp st
-      (closed s (at + 1 + 1 + w) (op-of c a 0) (ends-at (at + 1 + 1 + w) (omega (arith, digits-few (getD s (at + 3) 0))) en))
-      in
-      let z : at + length-in code ≡ at + 1 + 1 + w + 1 = omega (arith, k) in
-      record { stands = rw (o, z) r; below = rw o (letter-below c l n a 0 m); parted = rw o (letter-apart c l n a 0) }
+      let f : drop (at + 1) s ≡ space ∷ drop (at + 1 + 1) s = front s (at + 1) (omega arith) ∙ ap (λ (b : ℕ). b ∷ drop (at + 1 + 1) s) (q .spaced) in
+      let sp : Spelled s at (with-one (λ x. op-of c x 0)) (at + 1) = spelled-one s at (with-one (λ x. op-of c x 0)) c (omega arith) e (rw f (names-it (drop (at + 1 + 1) s))) in
+      one-qubit (λ x. op-of c x 0) (at + 1) a code (omega arith) sp q o (rw p (omega (arith, k))) (letter-below c l n a 0 m) (letter-apart c l n a 0)
+
+  pub usual-reset : (a code : ℕ) → getD s at 0 ≡ 77 → getD s (at + 1) 0 ≡ 82 → Ends-by s (at + 2) 10 a → a < n → op-in code ≡ op-of 77 a 1
+      → length-in code ≡ 4 + digits-by (getD s (at + 4) 0) → Allowed s at n code
+  usual-reset a code e c q m o k =
+      let p : at + 2 + 2 ≡ at + 4 = omega arith in
+      let sp : Spelled s at (with-one (λ x. op-of 77 x 1)) (at + 2) =
+      spelled-two s at (with-one (λ x. op-of 77 x 1)) 77 82 (omega arith) e (omega arith, strip-same s (at + 1) 82 (omega arith) c) (λ u. refl) in
+      one-qubit (λ x. op-of 77 x 1) (at + 2) a code (omega arith) sp q o (rw p (omega (arith, k))) (letter-below 77 (omega arith) n a 1 m) refl
 
   pub usual-two : (name a b code : ℕ) → getD s at 0 ≡ 67 → 0 < name → name ≤ 2
-      → ((t : List ℕ) → named names (67 ∷ getD s (at + 1) 0 ∷ t) ≡ qubits (with-two (op-of name)) t)
+      → ((t : List ℕ) → named names (67 ∷ getD s (at + 1) 0 ∷ space ∷ t) ≡ numbers (with-two (op-of name)) t)
       → (front-is : ℕ) → front-is ≡ 3 + digits-by (getD s (at + 4) 0) → Ends-by s (at + 2) 32 a → Ends-by s (at + front-is) 10 b → a < n → b < n → (a ≡ b → ⊥)
       → op-in code ≡ op-of name a b → length-in code ≡ front-is + 2 + digits-by (getD s (at + front-is + 2) 0) → Allowed s at n code
   usual-two name a b code e l m names-it v ev p q la lb d o k =
@@ -135,4 +150,6 @@ module _ (s : List ℕ) (at n : ℕ) (h : at + 9 ≤ length s) where
       names-at : named names (drop at s) ≡ qubits (with-two (op-of name)) (drop (at + 2) s)
       names-at =
           let x : at + 1 + 1 ≡ at + 2 = omega arith in
-          name-byte s at 67 (omega arith) e ∙ ap (λ (t : List ℕ). named names (67 ∷ t)) (front s (at + 1) (omega arith)) ∙ names-it (drop (at + 1 + 1) s) ∙ ap (λ (i : ℕ). qubits (with-two (op-of name)) (drop i s)) x
+          let f : drop (at + 2) s ≡ space ∷ drop (at + 2 + 1) s = front s (at + 2) (omega arith) ∙ ap (λ (c : ℕ). c ∷ drop (at + 2 + 1) s) (p .spaced) in
+          name-byte s at 67 (omega arith) e ∙ ap (λ (t : List ℕ). named names (67 ∷ t)) (front s (at + 1) (omega arith))
+          ∙ rw (x, f) (names-it (drop (at + 2 + 1) s))

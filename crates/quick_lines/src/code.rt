@@ -1,8 +1,10 @@
 // An operation and the length of its line as one number, which goes from function to function in a register: its name, its two qubits and the length, by the lowest bytes up.
+// A measurement has one qubit, and in place of the second what follows it.
 ghost use mathlib.Core.Path.{_≡_};
 ghost use Prim.Native.Nat.{_≤_, _<_};
 ghost use Rattle.circuit.specs.Text.{measures};
-ghost use Rattle.quick_lines.specs.parts.Coded.{op-of, op-in, name-in, first-in, second-in, length-in};
+ghost use Rattle.quick_lines.specs.parts.Coded.{after-of, op-of, op-in, name-in, first-in, second-in, length-in};
+use clifford::After;
 
 pub fn pack(name: usize, a: usize, b: usize, length: usize) -> usize
     requires { ⌜ (name < 256) × (a < 256) × (b < 256) × (1 ≤ length) × (length < 256) ⌝ }
@@ -40,4 +42,15 @@ pub fn one_if_measure(code: usize) -> usize
     ensures { λ r. ⌜ r ≡ measures (op-in code) ⌝ }
 {
     if name(code) == 77 { 1 } else { 0 }
+}
+
+// What follows, if it is a measurement.
+pub fn after(code: usize) -> After
+    ensures { λ r. ⌜ r ≡ after-of (second-in code) ⌝ }
+{
+    if second(code) == 0 {
+        After::Keep
+    } else {
+        After::Reset
+    }
 }

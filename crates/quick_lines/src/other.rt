@@ -5,6 +5,7 @@ ghost use Prim.Native.Nat.{_≤_, _<_};
 ghost use Rattle.circuit.specs.Text.{all-below};
 ghost use Rattle.quick_lines.specs.parts.Coded.{op-in, length-in, OpAt};
 use circuit::Line;
+use clifford::After;
 use clifford::Gate;
 use clifford::Op;
 use clifford::Two;
@@ -21,7 +22,10 @@ fn of(op: Op, length: usize) -> usize
                 Two::Cz => crate::code::pack(2, a, b, length),
             },
         },
-        Op::Measure(a) => crate::code::pack(77, a, 0, length),
+        Op::Measure(after, a) => match after {
+            After::Keep => crate::code::pack(77, a, 0, length),
+            After::Reset => crate::code::pack(77, a, 1, length),
+        },
     }
 }
 

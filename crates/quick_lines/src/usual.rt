@@ -1,4 +1,4 @@
-// Reads a line of the usual kind: one of the eight names, qubits of one or two digits, and nothing near the end of the text. Such a line needs few
+// Reads a line of the usual kind: one of the nine names, qubits of one or two digits, and nothing near the end of the text. Such a line needs few
 // tests, and its operation goes back as one number, by no way of memory. What is 0 here is left to `line_at`.
 ghost use mathlib.Core.Bool.{true, false, _&&_, cond};
 ghost use mathlib.Core.List.{List, _∷_};
@@ -6,12 +6,12 @@ ghost use mathlib.Core.Path.{_≡_};
 ghost use Prim.Native.Nat.{ℕ, _+_, _-_, _*_, _≤_, _<_};
 ghost use lib.Dec.{leb};
 ghost use lib.ListN.{length, getD};
-ghost use Rattle.circuit.specs.Lines.{is-digit, with-one, with-two, qubits, names, named};
+ghost use Rattle.circuit.specs.Lines.{space, is-digit, with-one, with-two, names, numbers, named};
 ghost use Rattle.quick_lines.specs.parts.Coded.{op-of, digits-by, QubitAt, Usual};
 
-// The letter of an operation on one qubit.
+// The name of an operation on one qubit, if it is a single letter.
 fn single(c: u8) -> bool
-    ensures { λ r. ⌜ (r ≡ true → (2 < c) × ((t : List ℕ) (b : ℕ) → named names (c ∷ t) ≡ qubits (with-one (λ a. op-of c a b)) t)) ⌝ }
+    ensures { λ r. ⌜ (r ≡ true → (2 < c) × ((t : List ℕ) → named names (c ∷ space ∷ t) ≡ numbers (with-one (λ a. op-of c a 0)) t)) ⌝ }
 {
     match c {
         72 => true,
@@ -26,7 +26,7 @@ fn single(c: u8) -> bool
 
 // The letter behind C: 1 for X, 2 for Z.
 fn pair(c: u8) -> usize
-    ensures { λ r. ⌜ (r ≤ 2) × (0 < r → (t : List ℕ) → named names (67 ∷ c ∷ t) ≡ qubits (with-two (op-of r)) t) ⌝ }
+    ensures { λ r. ⌜ (r ≤ 2) × (0 < r → (t : List ℕ) → named names (67 ∷ c ∷ space ∷ t) ≡ numbers (with-two (op-of r)) t) ⌝ }
 {
     match c {
         88 => 1,
@@ -101,6 +101,18 @@ fn one_at(s: &[u8], at: usize, n: usize, c: u8) -> usize
     crate::code::pack(c as usize, a, 0, 3 + width(s[at + 3]))
 }
 
+// MR and a qubit.
+fn reset_at(s: &[u8], at: usize, n: usize) -> usize
+    requires { ⌜ (at + 9 ≤ length (now s)) × (getD (now s) at 0 ≡ 77) × (getD (now s) (at + 1) 0 ≡ 82) × (n ≤ 64) ⌝ }
+    ensures { λ r. ⌜ Usual (now (s .entry)) at n r ⌝ }
+{
+    let a = qubit(s, at + 2, n, 10);
+    if n <= a {
+        return 0;
+    }
+    crate::code::pack(77, a, 1, 4 + width(s[at + 4]))
+}
+
 fn two_at(s: &[u8], at: usize, n: usize) -> usize
     requires { ⌜ (at + 9 ≤ length (now s)) × (getD (now s) at 0 ≡ 67) × (n ≤ 64) ⌝ }
     ensures { λ r. ⌜ Usual (now (s .entry)) at n r ⌝ }
@@ -137,6 +149,11 @@ pub fn line_at(s: &[u8], at: usize, n: usize) -> usize
     let c = s[at];
     if c == 67 {
         return two_at(s, at, n);
+    }
+    if c == 77 {
+        if s[at + 1] == 82 {
+            return reset_at(s, at, n);
+        }
     }
     one_at(s, at, n, c)
 }

@@ -9,6 +9,7 @@ use lib.Dec.{leb}
 use borrow.Author.Tests.{le-leb}
 use Rattle.answers.specs.Verdict.{Verdict, accepted, refused, then, unless}
 use Rattle.answers.proofs.Numbered.{Refused-by, by-then, by-unless, by-more, never-given, Not-8}
+use Rattle.clifford.specs.declared.After.{After}
 use Rattle.clifford.specs.declared.Op.{Op}
 use Rattle.clifford.specs.declared.Op.the-variants.{Gate as apply, Measure as measure}
 use Rattle.clifford.specs.Measurement.{random-row}
@@ -32,14 +33,14 @@ pub ran-seven : (n line : ℕ) (ops : List Op) (s : State) → Refused-by (λ m.
 ran-seven n line [] s = tt
 ran-seven n line (op ∷ ops) s = by-then Seven (step n line op s) (run n (suc line) ops) (one op) (ran-seven n (suc line) ops)
   where
-    settled : (a : ℕ) (o : Option ℕ) (coins : List ℕ) → Refused-by Seven (settle n line a s o coins)
-    settled a none coins = tt
-    settled a (some p) [] = refl
-    settled a (some p) (byte ∷ coins) = tt
+    settled : (f : After) (a : ℕ) (o : Option ℕ) (coins : List ℕ) → Refused-by Seven (settle n line f a s o coins)
+    settled f a none coins = tt
+    settled f a (some p) [] = refl
+    settled f a (some p) (byte ∷ coins) = tt
 
     one : (o : Op) → Refused-by Seven (step n line o s)
     one (apply g) = tt
-    one (measure a) = settled a (random-row n a (s .rows)) (s .coins)
+    one (measure f a) = settled f a (random-row n a (s .rows)) (s .coins)
 
 circuit-seven : (c : Circuit) (coins : List ℕ) → Refused-by Seven (run-circuit c coins)
 unfolding run-circuit

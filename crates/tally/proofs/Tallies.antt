@@ -12,7 +12,7 @@ use Rattle.answers.specs.Verdict.{Verdict, accepted, refused, then}
 use Rattle.clifford.specs.declared.Op.{Op}
 use Rattle.clifford.specs.declared.Op.the-variants.{Gate as apply, Measure as measure}
 use Rattle.clifford.specs.Tableau.{Rows}
-use Rattle.clifford.specs.Measurement.{Outcome, random-row, collapsed, fixed-value}
+use Rattle.clifford.specs.Measurement.{Outcome, random-row, random-answer, fixed-answer}
 use Rattle.clifford.specs.Run.{State, begin, coin, settle, step, run}
 use Rattle.tally.specs.Tally.{one-if, randoms, tally-of}
 use Rattle.tally.specs.parts.Stepping.{none-yet, stepped}
@@ -79,13 +79,12 @@ nothing s rows =
 
 step-pays : (n line : ℕ) (op : Op) (s : State) → Pays s (step n line op s)
 step-pays n line (apply g) s = nothing s _
-step-pays n line (measure a) s = go (random-row n a (s .rows)) (s .coins) refl
+step-pays n line (measure f a) s = go (random-row n a (s .rows)) (s .coins) refl
   where
-    go : (o : Option ℕ) (coins : List ℕ) → s .coins ≡ coins → Pays s (settle n line a s o coins)
-    go none coins e = paid-one s (record { random = false; value = fixed-value n a (s .rows) }) (s .rows) coins (sym e) (omega (arith, ap length e))
+    go : (o : Option ℕ) (coins : List ℕ) → s .coins ≡ coins → Pays s (settle n line f a s o coins)
+    go none coins e = paid-one s (fixed-answer n a (s .rows) .outcome) _ coins (sym e) (omega (arith, ap length e))
     go (some p) [] e = tt
-    go (some p) (byte ∷ coins) e =
-        paid-one s (record { random = true; value = coin byte }) (collapsed n a p (coin byte) (s .rows)) coins (ap (drop 1) (sym e)) (omega (arith, ap length e))
+    go (some p) (byte ∷ coins) e = paid-one s (random-answer n a p (coin byte) (s .rows) .outcome) _ coins (ap (drop 1) (sym e)) (omega (arith, ap length e))
 
 pub run-pays : (n line : ℕ) (ops : List Op) (s : State) → Pays s (run n line ops s)
 run-pays n line [] s = nothing s (s .rows)

@@ -11,11 +11,12 @@ use lib.ListN.{length, take, drop, set, length-set, length-append, length-drop}
 use lib.Seq.{take-suc-set, drop-drop}
 use Rattle.answers.specs.Verdict.{refused}
 use Rattle.clifford.specs.declared.Gate.{Gate}
+use Rattle.clifford.specs.declared.After.{After}
 use Rattle.clifford.specs.declared.Op.the-variants.{Gate as apply, Measure as measure}
 use Rattle.clifford.specs.Gates.{Fits}
 use Rattle.clifford.specs.Tableau.{Rows, gated, start}
-use Rattle.clifford.specs.Measurement.{random-row, collapsed, fixed-value, Outcome}
-use Rattle.clifford.specs.Run.{State, coin, settle, step, begin}
+use Rattle.clifford.specs.Measurement.{Outcome, random-row, collapsed, fixed-value, random-answer, fixed-answer}
+use Rattle.clifford.specs.Run.{State, begin, coin, afterwards, concluded, settle, step}
 use Rattle.packing.specs.View.{Words, rows-of}
 use Rattle.columns.specs.parts.Gated.{Gated}
 use Rattle.tableau.proofs.Gated.{gated-both}
@@ -79,41 +80,41 @@ module _ (n : ℕ) (coins : List ℕ) (e : State) (d s marks : List ℕ) (t : Ta
         enough = eh;
       }
 
-  pub went-fixed : (line a : ℕ) (value : Bool) (d′ s′ : List ℕ) (m : ℕ) (u : Tally) → Words d′ → Words s′ → Fixed n a (rows-of n d s) value (rows-of n d′ s′)
-      → m ≡ mark-of false value → u ≡ stepped false t → t .measured < 4096 → Went n coins (step n line (measure a) e) d′ s′ (set marks (t .measured) m) u
-  went-fixed line a value d′ s′ m u wd ws f em eu h =
+  pub went-fixed : (line : ℕ) (g : After) (a : ℕ) (value : Bool) (d′ s′ : List ℕ) (m : ℕ) (u : Tally) → Words d′ → Words s′ → Fixed n g a (rows-of n d s) value (rows-of n d′ s′)
+      → m ≡ mark-of false value → u ≡ stepped false t → t .measured < 4096 → Went n coins (step n line (measure g a) e) d′ s′ (set marks (t .measured) m) u
+  went-fixed line g a value d′ s′ m u wd ws f em eu h =
       let k : u .taken ≡ t .taken = ap (λ (w : Tally). w .taken) eu ∙ add-zero (t .taken) in
       let fv : value ≡ fixed-value n a (e .rows) = f .is ∙ ap (fixed-value n a) (sym (v .rows-are)) in
       record {
-        state = record { outcomes = e .outcomes ++ (record { random = false; value = fixed-value n a (e .rows) } ∷ []); rows = e .rows; coins = e .coins };
-        is = ap (λ (o : Option ℕ). settle n line a e o (e .coins)) (ap (random-row n a) (v .rows-are) ∙ f .kind);
-        view = viewed (record { random = false; value = fixed-value n a (e .rows) }) (e .rows) (e .coins) d′ s′ m u wd ws (v .rows-are ∙ sym (f .kept)) (em ∙ ap (mark-of false) fv) eu h
+        state = concluded g a e (fixed-answer n a (e .rows)) (e .coins);
+        is = ap (λ (o : Option ℕ). settle n line g a e o (e .coins)) (ap (random-row n a) (v .rows-are) ∙ f .kind);
+        view = viewed (fixed-answer n a (e .rows) .outcome) _ (e .coins) d′ s′ m u wd ws (ap₂ (afterwards g a) (sym fv) (v .rows-are) ∙ sym (f .after)) (em ∙ ap (mark-of false) fv) eu h
             (v .coins-are ∙ ap (λ (i : ℕ). drop i coins) (sym k)) (omega (arith, k, v .enough)) (omega arith);
       }
 
-  pub went-random : (line a : ℕ) (value : Bool) (d′ s′ : List ℕ) (m : ℕ) (u : Tally) → Words d′ → Words s′ → Random n a (rows-of n d s) (drop (t .taken) coins) value (rows-of n d′ s′)
-      → m ≡ mark-of true value → u ≡ stepped true t → t .measured < 4096 → Went n coins (step n line (measure a) e) d′ s′ (set marks (t .measured) m) u
-  went-random line a value d′ s′ m u wd ws f em eu h =
+  pub went-random : (line : ℕ) (g : After) (a : ℕ) (value : Bool) (d′ s′ : List ℕ) (m : ℕ) (u : Tally) → Words d′ → Words s′ → Random n g a (rows-of n d s) (drop (t .taken) coins) value (rows-of n d′ s′)
+      → m ≡ mark-of true value → u ≡ stepped true t → t .measured < 4096 → Went n coins (step n line (measure g a) e) d′ s′ (set marks (t .measured) m) u
+  went-random line g a value d′ s′ m u wd ws f em eu h =
       let k : u .taken ≡ t .taken + 1 = ap (λ (w : Tally). w .taken) eu in
       let c : e .coins ≡ f .byte ∷ f .left = v .coins-are ∙ f .coins-are in
       let l : drop (u .taken) coins ≡ f .left = ap (λ (i : ℕ). drop i coins) k ∙ sym (drop-drop 1 (t .taken) coins) ∙ ap (drop 1) (f .coins-are) in
-      let g : length coins ≡ suc (length (f .left)) + t .taken = omega (arith, length-drop (t .taken) coins, ap length (f .coins-are), v .enough) in
+      let all : length coins ≡ suc (length (f .left)) + t .taken = omega (arith, length-drop (t .taken) coins, ap length (f .coins-are), v .enough) in
       record {
-        state = record { outcomes = e .outcomes ++ (record { random = true; value = coin (f .byte) } ∷ []); rows = collapsed n a (f .row) (coin (f .byte)) (e .rows); coins = f .left };
-        is = ap₂ (settle n line a e) (ap (random-row n a) (v .rows-are) ∙ f .kind) c;
-        view = viewed (record { random = true; value = coin (f .byte) }) _ (f .left) d′ s′ m u wd ws
-            (ap₂ (collapsed n a (f .row)) (sym (f .is)) (v .rows-are) ∙ sym (f .after)) (em ∙ ap (mark-of true) (f .is)) eu h (sym l) (omega (arith, k, g)) (omega (arith, ap length c));
+        state = concluded g a e (random-answer n a (f .row) (coin (f .byte)) (e .rows)) (f .left);
+        is = ap₂ (settle n line g a e) (ap (random-row n a) (v .rows-are) ∙ f .kind) c;
+        view = viewed (random-answer n a (f .row) (coin (f .byte)) (e .rows) .outcome) _ (f .left) d′ s′ m u wd ws
+            (ap₂ (λ b r. afterwards g a b (collapsed n a (f .row) b r)) (sym (f .is)) (v .rows-are) ∙ sym (f .after)) (em ∙ ap (mark-of true) (f .is)) eu h (sym l) (omega (arith, k, all)) (omega (arith, ap length c));
       }
 
-  pub went-dry : (line a : ℕ) → Dry n a (rows-of n d s) (drop (t .taken) coins) → step n line (measure a) e ≡ refused 7 line
-  went-dry line a f = ap₂ (settle n line a e) (ap (random-row n a) (v .rows-are) ∙ f .kind) (v .coins-are ∙ f .none-left)
+  pub went-dry : (line : ℕ) (g : After) (a : ℕ) → Dry n a (rows-of n d s) (drop (t .taken) coins) → step n line (measure g a) e ≡ refused 7 line
+  went-dry line g a f = ap₂ (settle n line g a e) (ap (random-row n a) (v .rows-are) ∙ f .kind) (v .coins-are ∙ f .none-left)
 
 -- a line that measures
-pub measured-step : (text : List ℕ) (at n a : ℕ) (coins d s marks : List ℕ) (t : Tally) (next : ℕ) (r : Step) (d′ s′ marks′ : List ℕ) → Stands op-line text at (measure a) next
-    → all-below n (measure a) ≡ true → MeasureAs n a coins d s marks t next r d′ s′ marks′ → StepAs text at n coins d s marks t r d′ s′ marks′
-measured-step text at n a coins d s marks t next (steps.Next behind u) d′ s′ marks′ k b m = record { op = measure a; stands = rw (m .0) k; below = b; parted = refl; goes = m .1 }
-measured-step text at n a coins d s marks t next steps.NoCoin d′ s′ marks′ k b m = record { op = measure a; next = next; stands = k; stops = m }
-measured-step text at n a coins d s marks t next steps.Refused d′ s′ marks′ k b m = absurd m
+pub measured-step : (text : List ℕ) (at n : ℕ) (f : After) (a : ℕ) (coins d s marks : List ℕ) (t : Tally) (next : ℕ) (r : Step) (d′ s′ marks′ : List ℕ) → Stands op-line text at (measure f a) next
+    → all-below n (measure f a) ≡ true → MeasureAs n f a coins d s marks t next r d′ s′ marks′ → StepAs text at n coins d s marks t r d′ s′ marks′
+measured-step text at n f a coins d s marks t next (steps.Next behind u) d′ s′ marks′ k b m = record { op = measure f a; stands = rw (m .0) k; below = b; parted = refl; goes = m .1 }
+measured-step text at n f a coins d s marks t next steps.NoCoin d′ s′ marks′ k b m = record { op = measure f a; next = next; stands = k; stops = m }
+measured-step text at n f a coins d s marks t next steps.Refused d′ s′ marks′ k b m = absurd m
 
 -- a line with a gate, by its number
 pub applied-step : (text : List ℕ) (at n code next : ℕ) (coins d s marks : List ℕ) (t : Tally) (d′ s′ : List ℕ) → n ≤ 64 → Allowed text at n code → next ≡ at + length-in code

@@ -12,13 +12,13 @@ use Rattle.clifford.specs.Run.{State, run, begin}
 use Rattle.circuit.specs.Text.{operations}
 use Rattle.circuit.proofs.Positions.{front, past}
 use Rattle.checking.proofs.Counting.{then-then}
-use Rattle.circuit.proofs.Walk.{then-accepted, allowed-line, operations-end, next-line, next-at}
+use Rattle.circuit.proofs.Walk.{then-accepted, allowed-line, operations-end, next-line, next-at, measures-one}
 use Rattle.tally.specs.declared.Tally.{Tally}
 use Rattle.tally.specs.Tally.{randoms}
 use Rattle.tally.specs.parts.Stepping.{none-yet}
 use Rattle.walking.specs.parts.Walk.{View, Goes, Stops, Room, lines-of, or-none, Ended, Stuck, Walkable}
 use Rattle.tally.proofs.Tallies.{tally-tied, randoms-within}
-use Rattle.walking.proofs.Counting.{step-count, measures-one}
+use Rattle.walking.proofs.Counting.{step-count}
 use Rattle.walking.proofs.Views.{view-begin}
 
 -- the operations done so far, the state they led to, and that what the text is worth depends on the lines from here on

@@ -3,11 +3,14 @@
 ghost use mathlib.Core.Path.{_≡_};
 ghost use Prim.Native.Nat.{_≤_, _<_};
 ghost use lib.ListN.{length, drop};
-ghost use Rattle.clifford.specs.Run.{Valid};
+ghost use Rattle.clifford.specs.Run.{Valid, afterwards};
 ghost use Rattle.quick_lines.specs.parts.Coded.{op-in, name-in};
 ghost use Rattle.packing.specs.View.{Words, rows-of};
 ghost use Rattle.records.specs.Record.{mark-of};
 ghost use Rattle.walking.specs.parts.Walk.{ShotAs, Room, MeasureAs, Applies, StepAs, Walkable, WalkAs};
+use clifford::After;
+use clifford::Gate;
+use clifford::One;
 use columns::LowestRow;
 use tally::Tally;
 
@@ -18,25 +21,47 @@ enum Shot {
     NoCoin,
 }
 
+// What follows a measurement of a with this outcome.
+fn follow(d: &mut [u64; 129], s: &mut [u64; 129], n: usize, after: After, a: usize, outcome: bool)
+    requires { ⌜ Words (now d) × Words (now s) × (n ≤ 64) × (a < n) ⌝ }
+    ensures { λ _. ⌜ Words (now (d .exit)) × Words (now (s .exit)) × (rows-of n (now (d .exit)) (now (s .exit)) ≡ afterwards after a outcome (rows-of n (now (d .entry)) (now (s .entry)))) ⌝ }
+{
+    match after {
+        After::Keep => {}
+        After::Reset => {
+            if outcome {
+                columns::gate(d, Gate::One(One::PauliX, a));
+                columns::gate(s, Gate::One(One::PauliX, a));
+            }
+        }
+    }
+}
+
 fn shoot(
     d: &mut [u64; 129],
     s: &mut [u64; 129],
     n: usize,
+    after: After,
     a: usize,
     coins: &[u8],
     used: usize,
 ) -> Shot
     requires { ⌜ Words (now d) × Words (now s) × (n ≤ 64) × (a < n) × (used ≤ length (now coins)) ⌝ }
-    ensures { λ r. ⌜ Words (now (d .exit)) × Words (now (s .exit)) × ShotAs n a (rows-of n (now (d .entry)) (now (s .entry))) (drop used (now (coins .entry))) r (rows-of n (now (d .exit)) (now (s .exit))) ⌝ }
+    ensures { λ r. ⌜ Words (now (d .exit)) × Words (now (s .exit)) × ShotAs n after a (rows-of n (now (d .entry)) (now (s .entry))) (drop used (now (coins .entry))) r (rows-of n (now (d .exit)) (now (s .exit))) ⌝ }
 {
     match columns::random_row(s, n, a) {
-        LowestRow::Nothing => Shot::Fixed(measure_fixed::fixed_value(d, s, n, a)),
+        LowestRow::Nothing => {
+            let value = measure_fixed::fixed_value(d, s, n, a);
+            follow(d, s, n, after, a, value);
+            Shot::Fixed(value)
+        }
         LowestRow::At(p) => {
             if coins.len() <= used {
                 return Shot::NoCoin;
             }
             let coin = coins[used] % 2 == 1;
             measure_random::collapse(d, s, n, a, p, coin);
+            follow(d, s, n, after, a, coin);
             Shot::Random(coin)
         }
     }
@@ -65,17 +90,18 @@ fn measure(
     s: &mut [u64; 129],
     marks: &mut [u8; 4096],
     n: usize,
+    after: After,
     a: usize,
     coins: &[u8],
     tally: Tally,
     next: usize,
 ) -> Step
     requires { ⌜ Room n (now coins) (now d) (now s) (now marks) tally × (a < n) ⌝ }
-    ensures { λ r. ⌜ MeasureAs n a (now (coins .entry)) (now (d .entry)) (now (s .entry)) (now (marks .entry)) tally next r (now (d .exit)) (now (s .exit)) (now (marks .exit)) ⌝ }
+    ensures { λ r. ⌜ MeasureAs n after a (now (coins .entry)) (now (d .entry)) (now (s .entry)) (now (marks .entry)) tally next r (now (d .exit)) (now (s .exit)) (now (marks .exit)) ⌝ }
 {
     let at = tally.measured;
     let used = tally.taken;
-    match shoot(d, s, n, a, coins, used) {
+    match shoot(d, s, n, after, a, coins, used) {
         Shot::Fixed(value) => {
             marks[at] = mark(false, value);
             Step::Next(next, tally::stepped_numbers(at, tally.random, used, false))
@@ -129,8 +155,9 @@ fn turn(
     }
     let next = at + quick_lines::code::length(code);
     if quick_lines::code::name(code) == 77 {
+        let after = quick_lines::code::after(code);
         let a = quick_lines::code::first(code);
-        return measure(d, s, marks, n, a, coins, tally, next);
+        return measure(d, s, marks, n, after, a, coins, tally, next);
     }
     apply(d, s, code);
     Step::Next(next, tally)

@@ -16,7 +16,7 @@ use Rattle.circuit.specs.declared.numbers.Number.{Number}
 use Rattle.circuit.specs.declared.numbers.Number.the-variants as number
 use Rattle.circuit.specs.declared.Word.{Word}
 use Rattle.circuit.specs.declared.Word.the-variants as word
-use Rattle.circuit.specs.Lines.{Found, found, malformed, then-read, strip, closed-by, end-byte, is-digit, Form, with-one, with-two, qubits, names, named, op-line}
+use Rattle.circuit.specs.Lines.{Found, found, malformed, then-read, strip, closed-by, end-byte, is-digit, Form, with-one, with-two, qubit, names, named, op-line}
 
 -- f finds this value at one position of s, and ends at another
 pub record Stands {A : Type 0} (f : List ℕ → Found A) (s : List ℕ) (at : ℕ) (value : A) (next : ℕ) : Type 0 where
@@ -36,6 +36,11 @@ ReadsAt f s at line.Malformed = f (drop at s) ≡ malformed
 abbrev pub LineAt : List ℕ → ℕ → Line → Type 0
 LineAt = ReadsAt op-line
 
+-- the qubits behind a name, each behind a space
+abbrev pub qubits : Form → List ℕ → Found Op
+qubits (with-one f) s = then-read (qubit s) (λ a rest. found (f a) rest)
+qubits (with-two f) s = then-read (qubit s) (λ a rest. then-read (qubit rest) (λ b more. found (f a b) more))
+
 -- two qubits and the end byte
 abbrev pub pair-line : Two → List ℕ → Found Op
 pair-line g s = then-read (qubits (with-two (λ a b. apply (two g a b))) s) (closed-by (end-byte ∷ []))
@@ -50,13 +55,14 @@ abbrev pub digit-value : List ℕ → ℕ
 digit-value [] = 10
 digit-value (c ∷ s) = cond (is-digit c) (c - 48) 10
 
--- a name of so many bytes, whose operation has this form
-pub record Spelled (s : List ℕ) (at : ℕ) (form : Form) (count : ℕ) : Type 0 where
-  pub names-it : named names (drop at s) ≡ qubits form (drop (at + count) s)
-  pub within : at + count ≤ length s
+-- a name that ends here, whose operation has this form
+pub record Spelled (s : List ℕ) (at : ℕ) (form : Form) (behind : ℕ) : Type 0 where
+  pub names-it : named names (drop at s) ≡ qubits form (drop behind s)
+  pub after : at < behind
+  pub within : behind ≤ length s
 
 abbrev pub NameAt : List ℕ → ℕ → Word → Type 0
-NameAt s at (word.One g) = Spelled s at (with-one (λ a. apply (one g a))) 1
-NameAt s at (word.Two g) = Spelled s at (with-two (λ a b. apply (two g a b))) 2
-NameAt s at word.Measure = Spelled s at (with-one measure) 1
+NameAt s at (word.One g) = Spelled s at (with-one (λ a. apply (one g a))) (at + 1)
+NameAt s at (word.Two g) = Spelled s at (with-two (λ a b. apply (two g a b))) (at + 2)
+NameAt s at (word.Measure f behind) = Spelled s at (with-one (measure f)) behind
 NameAt s at word.Nothing = named names (drop at s) ≡ malformed

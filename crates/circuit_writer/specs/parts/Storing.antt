@@ -12,7 +12,7 @@ use Rattle.clifford.specs.declared.Op.the-variants.{Gate as apply, Measure as m
 abbrev pub Small : Op → Type 0
 Small (apply (one g a)) = a < 1000
 Small (apply (two g a b)) = (a < 1000) × (b < 1000)
-Small (measure a) = a < 1000
+Small (measure f a) = a < 1000
 
 -- the text is stored from at on, and nothing else changes
 pub record Stores (text old : List ℕ) (at : ℕ) (new : List ℕ) (next : ℕ) : Type 0 where

@@ -1,6 +1,6 @@
 -- `print::put_run` meets its contract. Assumes nothing.
 use mathlib.Core.Path.{_∙_}
-use Rattle.walking.proofs.Counting.{measures-one}
+use Rattle.circuit.proofs.Walk.{measures-one}
 use borrow.Author.Needs.{needs}
 use native.Mathlib.Omega.{arith}
 use Prim.Native.Nat.{_-_}
@@ -39,14 +39,14 @@ put-op-requires c κs =
     let t = c .before .before .before .before .before .before .loop-test .taken in
     omega (arith, print-room _ _ _ _ _ (e .pre) _ _ _ _ _ (l .inv) t _ _ s)
 
-measured-requires : tie.Need-measured-requires Inv-loop μ-loop
-measured-requires c κs = search needs
+one-if-measure-requires : tie.Need-one-if-measure-requires Inv-loop μ-loop
+one-if-measure-requires c κs = search needs
 
 add-k : tie.Need-add-k Inv-loop μ-loop
 add-k c =
     let e = c .before .before .before .before .before .before .before .before .before .before .before .before .before .before .before in
     let l = c .before .before .before .before .before .before .before .before .before .before .before .loop in
-    omega (arith, e .good, print-mark _ _ _ _ _ (e .pre) _ _ _ _ _ (l .inv), measures-one (c .before .before .before .before .before .before .before .op .given .0 .0), c .measured .ensures)
+    omega (arith, e .good, print-mark _ _ _ _ _ (e .pre) _ _ _ _ _ (l .inv), measures-one (c .before .before .before .before .before .before .before .op .given .0 .0), c .one-if-measure .ensures)
 
 add-line : tie.Need-add-line Inv-loop μ-loop
 add-line c =
@@ -68,7 +68,7 @@ loop-again c =
     let l = c .before .before .before .before .before .before .before .before .before .before .before .loop in
     let s = rw (c .before .before .before .before .before .before .before .op .given .1) at (c .before .before .before .before .before .before .before .before .before .line-at .ensures) in
     let t = c .before .before .before .before .before .before .before .before .before .before .loop-test .taken in
-    rw (c .measured .ensures) (print-on _ _ _ _ _ (e .pre) _ _ _ _ _ (l .inv) t _ _ s _ _ (c .before .before .before .put-op .ensures))
+    rw (c .one-if-measure .ensures) (print-on _ _ _ _ _ (e .pre) _ _ _ _ _ (l .inv) t _ _ s _ _ (c .before .before .before .put-op .ensures))
 
 enum-told : tie.Need-enum-told Inv-loop μ-loop
 enum-told c = search needs
@@ -136,7 +136,7 @@ put-run-spec =
     enum-known-op
     shared-slice-read-put-op
     put-op-requires
-    measured-requires
+    one-if-measure-requires
     add-k
     add-line
     loop-less

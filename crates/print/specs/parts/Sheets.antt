@@ -24,7 +24,7 @@ outcome-told b = record { random = leb 50 b; value = eqb (b % 2) 1 }
 -- what an operation prints
 abbrev pub op-text : ℕ → Op → Outcome → List ℕ
 op-text line (apply g) o = []
-op-text line (measure a) o = outcome-line line a o
+op-text line (measure f a) o = outcome-line line a o
 
 -- the lines of a record whose run had these operations
 unfoldable pub sheet-lines : List Op → ℕ → List ℕ → List ℕ

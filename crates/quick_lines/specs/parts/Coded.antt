@@ -8,16 +8,22 @@ use lib.ListN.{length, getD, drop}
 use Rattle.answers.specs.Verdict.{accepted}
 use Rattle.clifford.specs.declared.Two.the-variants.{Cx, Cz}
 use Rattle.clifford.specs.declared.Gate.the-variants.{One as one, Two as two}
+use Rattle.clifford.specs.declared.After.{After}
+use Rattle.clifford.specs.declared.After.the-variants.{Keep, Reset}
 use Rattle.clifford.specs.declared.Op.{Op}
 use Rattle.clifford.specs.declared.Op.the-variants.{Gate as apply, Measure as measure}
 use Rattle.clifford.specs.parts.ByLetter.{one-of}
-use Rattle.circuit.specs.Lines.{is-digit, qubit, op-line}
+use Rattle.circuit.specs.Lines.{space, is-digit, qubit, op-line}
 use Rattle.circuit.specs.Text.{all-below, apart, operations}
 use Rattle.circuit.specs.parts.Reading.{Stands}
 
--- 77 is M, 1 is CX, 2 is CZ; any other is the letter of a gate on one qubit
+-- what follows a measurement stands where a gate has its second qubit: 0 for M, and otherwise MR
+abbrev pub after-of : ℕ → After
+after-of b = cond (eqb b 0) Keep Reset
+
+-- 77 is a measurement, 1 is CX, 2 is CZ; any other is the letter of a gate on one qubit
 abbrev pub op-of : ℕ → ℕ → ℕ → Op
-op-of name a b = cond (eqb name 77) (measure a) (cond (eqb name 1) (apply (two Cx a b)) (cond (eqb name 2) (apply (two Cz a b)) (apply (one (one-of name) a))))
+op-of name a b = cond (eqb name 77) (measure (after-of b) a) (cond (eqb name 1) (apply (two Cx a b)) (cond (eqb name 2) (apply (two Cz a b)) (apply (one (one-of name) a))))
 
 -- the bytes of the number from the lowest up: the name, the two qubits, and then the length
 abbrev pub name-in : ℕ → ℕ
@@ -56,6 +62,7 @@ digits-by second = cond (is-digit second) 2 1
 
 -- where it is below n, the qubit whose number stands there behind a space, with the byte stop behind it
 pub record Ends-by (s : List ℕ) (at stop value : ℕ) : Type 0 where
+  pub spaced : getD s at 0 ≡ space
   pub stands : Stands qubit s at value (at + 1 + digits-by (getD s (at + 2) 0))
   pub stops : getD s (at + 1 + digits-by (getD s (at + 2) 0)) 0 ≡ stop
 

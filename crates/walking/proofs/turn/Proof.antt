@@ -1,7 +1,8 @@
 -- `walking::turn` meets its contract. Assumes nothing.
-use mathlib.Core.Path.{_∙_, ap}
+use mathlib.Core.Path.{_≡_, _∙_, ap}
 use Prim.Native.Nat.{ℕ, _+_}
 use native.Mathlib.Omega.{arith}
+use Rattle.clifford.specs.declared.Op.the-variants.{Measure as measure}
 use Rattle.quick_lines.specs.parts.Coded.{op-in}
 use Rattle.circuit.proofs.Walk.{valid-op}
 use Rattle.quick_lines.proofs.Codes.{below-more, allowed-valid, is-measure}
@@ -25,20 +26,30 @@ add-next c = omega (arith, c .length .ensures, (c .before .before .op-at .ensure
 name-requires : tie.Need-name-requires
 name-requires c κs = search needs
 
+after-requires : tie.Need-after-requires
+after-requires c κs = search needs
+
 first-requires : tie.Need-first-requires
 first-requires c κs = search needs
 
 measure-requires : tie.Need-measure-requires
 measure-requires c κs =
-    let a = c .before .before .before .before .before .before .before .before .before .before .before .args in
-    (c .before .before .before .before .before .before .before .before .before .before .before .pre, rw (is-measure (c .before .before .before .before .before .before .before .before .op-at .result) (c .before .before .before .before .before .name .result) (c .before .before .before .first .result) (c .before .before .before .before .before .name .ensures) (c .before .before .before .first .ensures) (c .before .before .before .before .if2 .taken)) at (allowed-valid (a .text .now) (a .at) (a .n) (c .before .before .before .before .before .before .before .before .op-at .result) (c .before .before .before .before .before .before .before .before .op-at .ensures .allows (omega (arith, c .before .before .before .before .before .before .before .if1 .left)))))
+    let e = c .before .before .before .before .before .before .before .before .before .before .before .before in
+    let o = c .before .before .before .before .before .before .before .before .before .op-at in
+    let w = o .ensures .allows (omega (arith, c .before .before .before .before .before .before .before .before .if1 .left)) in
+    let f = c .before .before .before .first in
+    (e .pre, rw (is-measure (o .result) (c .before .before .before .before .before .before .name .result) (f .result) (c .before .before .before .before .before .before .name .ensures) (f .ensures) (c .before .before .before .before .before .if2 .taken)) at (allowed-valid (e .args .text .now) (e .args .at) (e .args .n) (o .result) w))
 
 returns-2 : tie.Need-returns-2
 returns-2 c =
-    let a = c .before .before .before .before .before .before .before .before .before .before .before .before .args in
-    let w = c .before .before .before .before .before .before .before .before .before .op-at .ensures .allows (omega (arith, c .before .before .before .before .before .before .before .before .if1 .left)) in
-    let e = is-measure (c .before .before .before .before .before .before .before .before .before .op-at .result) (c .before .before .before .before .before .before .name .result) (c .before .before .before .before .first .result) (c .before .before .before .before .before .before .name .ensures) (c .before .before .before .before .first .ensures) (c .before .before .before .before .before .if2 .taken) in
-    measured-step (a .text .now) (a .at) (a .n) (c .before .before .before .before .first .result) (a .coins .now) (a .d .now) (a .s .now) (a .marks .now) (a .tally) (a .at + c .before .before .before .before .before .before .before .length .result) (c .measure .result) _ _ _ (rw (c .before .before .before .before .before .before .before .length .ensures) (rw e at (w .stands))) (rw e at (w .below)) (c .measure .ensures)
+    let a = c .before .before .before .before .before .before .before .before .before .before .before .before .before .args in
+    let o = c .before .before .before .before .before .before .before .before .before .before .op-at in
+    let w = o .ensures .allows (omega (arith, c .before .before .before .before .before .before .before .before .before .if1 .left)) in
+    let f = c .before .before .before .before .first in
+    let k = c .before .before .before .before .before .after in
+    let l = c .before .before .before .before .before .before .before .before .length in
+    let e : op-in (o .result) ≡ measure (k .result) (f .result) = rw (k .ensures) (is-measure (o .result) (c .before .before .before .before .before .before .before .name .result) (f .result) (c .before .before .before .before .before .before .before .name .ensures) (f .ensures) (c .before .before .before .before .before .before .if2 .taken)) in
+    measured-step (a .text .now) (a .at) (a .n) (k .result) (f .result) (a .coins .now) (a .d .now) (a .s .now) (a .marks .now) (a .tally) (a .at + l .result) (c .measure .result) _ _ _ (rw (l .ensures) (rw e at (w .stands))) (rw e at (w .below)) (c .measure .ensures)
 
 apply-requires : tie.Need-apply-requires
 apply-requires c κs =
@@ -61,6 +72,7 @@ turn-spec =
     length-requires
     add-next
     name-requires
+    after-requires
     first-requires
     measure-requires
     returns-2

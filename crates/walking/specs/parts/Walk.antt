@@ -8,11 +8,12 @@ use lib.ListN.{length, take, drop}
 use Rattle.clifford.specs.Limits.{most-operations}
 use Rattle.answers.specs.Verdict.{Verdict, accepted, refused}
 use Rattle.clifford.specs.declared.Gate.{Gate}
+use Rattle.clifford.specs.declared.After.{After}
 use Rattle.clifford.specs.declared.Op.{Op}
 use Rattle.clifford.specs.declared.Op.the-variants.{Gate as apply, Measure as measure}
 use Rattle.clifford.specs.Tableau.{Rows, start}
 use Rattle.clifford.specs.Measurement.{random-row, collapsed, fixed-value}
-use Rattle.clifford.specs.Run.{State, begin, coin, step, run}
+use Rattle.clifford.specs.Run.{State, begin, coin, afterwards, step, run}
 use Rattle.circuit.specs.Lines.{op-line}
 use Rattle.circuit.specs.parts.Reading.{Stands}
 use Rattle.circuit.specs.Text.{all-below, apart, operations}
@@ -29,21 +30,21 @@ use Rattle.walking.specs.declared.Walked.the-variants as walked
 use Rattle.tally.specs.declared.Tally.{Tally}
 use Rattle.tally.specs.Tally.{tally-of}
 
--- a fixed measurement: no row changes
-pub record Fixed (n a : ℕ) (t : Rows) (value : Bool) (t′ : Rows) : Type 0 where
+-- a fixed measurement, and what follows it
+pub record Fixed (n : ℕ) (f : After) (a : ℕ) (t : Rows) (value : Bool) (t′ : Rows) : Type 0 where
   pub kind : random-row n a t ≡ none
   pub is : value ≡ fixed-value n a t
-  pub kept : t′ ≡ t
+  pub after : t′ ≡ afterwards f a value t
 
--- a random one with a coin
-pub record Random (n a : ℕ) (t : Rows) (coins : List ℕ) (value : Bool) (t′ : Rows) : Type 0 where
+-- a random one with a coin, and what follows it
+pub record Random (n : ℕ) (f : After) (a : ℕ) (t : Rows) (coins : List ℕ) (value : Bool) (t′ : Rows) : Type 0 where
   pub row : ℕ
   pub byte : ℕ
   pub left : List ℕ
   pub kind : random-row n a t ≡ some row
   pub coins-are : coins ≡ byte ∷ left
   pub is : value ≡ coin byte
-  pub after : t′ ≡ collapsed n a row value t
+  pub after : t′ ≡ afterwards f a value (collapsed n a row value t)
 
 -- a random one that finds no coin
 pub record Dry (n a : ℕ) (t : Rows) (coins : List ℕ) : Type 0 where
@@ -51,10 +52,10 @@ pub record Dry (n a : ℕ) (t : Rows) (coins : List ℕ) : Type 0 where
   pub kind : random-row n a t ≡ some row
   pub none-left : coins ≡ []
 
-abbrev pub ShotAs : ℕ → ℕ → Rows → List ℕ → Shot → Rows → Type 0
-ShotAs n a t coins (shot.Fixed value) t′ = Fixed n a t value t′
-ShotAs n a t coins (shot.Random value) t′ = Random n a t coins value t′
-ShotAs n a t coins shot.NoCoin t′ = Dry n a t coins
+abbrev pub ShotAs : ℕ → After → ℕ → Rows → List ℕ → Shot → Rows → Type 0
+ShotAs n f a t coins (shot.Fixed value) t′ = Fixed n f a t value t′
+ShotAs n f a t coins (shot.Random value) t′ = Random n f a t coins value t′
+ShotAs n f a t coins shot.NoCoin t′ = Dry n a t coins
 
 -- a state of the run as the walk holds it: its rows in two groups of words, its outcomes as characters, the coins that are left behind those taken, and the tally
 pub record View (n : ℕ) (coins : List ℕ) (e : State) (d s marks : List ℕ) (t : Tally) : Type 0 where
@@ -113,11 +114,11 @@ pub record Room (n : ℕ) (coins d s marks : List ℕ) (t : Tally) : Type 0 wher
   pub enough : t .taken ≤ length coins
 
 -- the measurement of a, with the position behind its line handed on
-abbrev pub MeasureAs : ℕ → ℕ → List ℕ → List ℕ → List ℕ → List ℕ → Tally → ℕ → Step → List ℕ → List ℕ → List ℕ → Type 0
-MeasureAs n a coins d s marks t next (steps.Next behind t′) d′ s′ marks′ =
-    (behind ≡ next) × ((line : ℕ) (e : State) → View n coins e d s marks t → Went n coins (step n line (measure a) e) d′ s′ marks′ t′)
-MeasureAs n a coins d s marks t next steps.NoCoin d′ s′ marks′ = (line : ℕ) (e : State) → View n coins e d s marks t → step n line (measure a) e ≡ refused 7 line
-MeasureAs n a coins d s marks t next steps.Refused d′ s′ marks′ = ⊥
+abbrev pub MeasureAs : ℕ → After → ℕ → List ℕ → List ℕ → List ℕ → List ℕ → Tally → ℕ → Step → List ℕ → List ℕ → List ℕ → Type 0
+MeasureAs n f a coins d s marks t next (steps.Next behind t′) d′ s′ marks′ =
+    (behind ≡ next) × ((line : ℕ) (e : State) → View n coins e d s marks t → Went n coins (step n line (measure f a) e) d′ s′ marks′ t′)
+MeasureAs n f a coins d s marks t next steps.NoCoin d′ s′ marks′ = (line : ℕ) (e : State) → View n coins e d s marks t → step n line (measure f a) e ≡ refused 7 line
+MeasureAs n f a coins d s marks t next steps.Refused d′ s′ marks′ = ⊥
 
 abbrev pub or-none : Verdict (List Op) → List Op
 or-none (accepted ops) = ops

@@ -1,4 +1,4 @@
--- `circuit::code::pack` meets its contract. Assumes nothing.
+-- `quick_lines::code::pack` meets its contract. Assumes nothing.
 use native.Mathlib.Omega.{arith}
 use Rattle.quick_lines.proofs.Codes.{bytes-of, length-of}
 use borrow.Author.Needs.{needs}

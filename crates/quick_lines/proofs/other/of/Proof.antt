@@ -59,13 +59,26 @@ pack-requires-3 c κs =
 enum-known-op-2 : tie.Need-enum-known-op-2
 enum-known-op-2 c = search needs
 
+enum-told-3 : tie.Need-enum-told-3
+enum-told-3 c = search needs
+
 pack-requires-4 : tie.Need-pack-requires-4
 pack-requires-4 c κs =
-    let p = rw (c .before .op2 .given .1) at (c .before .before .before .pre .0) in
-    (omega arith, byte p, omega arith, c .before .before .before .pre .1, c .before .before .before .pre .2)
+    let e = c .before .before .before .before .before in
+    let p = rw (c .before .before .before .op2 .given .1) at (e .pre .0) in
+    (omega arith, byte p, omega arith, e .pre .1, e .pre .2)
+
+enum-told-4 : tie.Need-enum-told-4
+enum-told-4 c = search needs
+
+pack-requires-5 : tie.Need-pack-requires-5
+pack-requires-5 c κs =
+    let e = c .before .before .before .before .before in
+    let p = rw (c .before .before .before .op2 .given .1) at (e .pre .0) in
+    (omega arith, byte p, omega arith, e .pre .1, e .pre .2)
 
 returns : tie.Need-returns
-returns c = (c .pack .ensures .0, rw (c .before .before .before .before .before .before .op .given .1, c .before .before .before .gate .given .1) (c .pack .ensures .1 ∙ letter-told _ _ _ _ (c .before .letter .ensures)), c .pack .ensures .2)
+returns c = (c .pack .ensures .0, rw (c .before .before .before .before .before .before .op .given .1, c .before .before .before .gate .given .1) (c .pack .ensures .1 ∙ letter-told _ _ _ 0 (c .before .letter .ensures)), c .pack .ensures .2)
 
 returns-2 : tie.Need-returns-2
 returns-2 c = (c .pack2 .ensures .0, rw (c .before .before .before .before .before .before .before .op .given .1, c .before .before .before .before .gate2 .given .1, c .before .enum-told .given .1) (c .pack2 .ensures .1), c .pack2 .ensures .2)
@@ -74,7 +87,10 @@ returns-3 : tie.Need-returns-3
 returns-3 c = (c .pack3 .ensures .0, rw (c .before .before .before .before .before .before .before .op .given .1, c .before .before .before .before .gate2 .given .1, c .before .enum-told2 .given .1) (c .pack3 .ensures .1), c .pack3 .ensures .2)
 
 returns-4 : tie.Need-returns-4
-returns-4 c = (c .pack4 .ensures .0, rw (c .before .before .op2 .given .1) (c .pack4 .ensures .1), c .pack4 .ensures .2)
+returns-4 c = (c .pack4 .ensures .0, rw (c .before .before .before .before .op2 .given .1, c .before .enum-told3 .given .1) (c .pack4 .ensures .1), c .pack4 .ensures .2)
+
+returns-5 : tie.Need-returns-5
+returns-5 c = (c .pack5 .ensures .0, rw (c .before .before .before .before .op2 .given .1, c .before .enum-told4 .given .1) (c .pack5 .ensures .1), c .pack5 .ensures .2)
 
 pub of-spec : {M : Type 1} → statement M
 of-spec =
@@ -91,8 +107,12 @@ of-spec =
     enum-told-2
     pack-requires-3
     enum-known-op-2
+    enum-told-3
     pack-requires-4
+    enum-told-4
+    pack-requires-5
     returns
     returns-2
     returns-3
-    returns-4)
+    returns-4
+    returns-5)

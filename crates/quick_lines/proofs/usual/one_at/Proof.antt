@@ -1,4 +1,4 @@
--- `circuit::usual::one_at` meets its contract. Assumes nothing.
+-- `quick_lines::usual::one_at` meets its contract. Assumes nothing.
 use mathlib.Core.Path.{_∙_, ap}
 use Prim.Native.Nat.{ℕ, _+_}
 use native.Mathlib.Omega.{arith}

@@ -1,4 +1,4 @@
--- `circuit::usual::pair` meets its contract. Assumes nothing.
+-- `quick_lines::usual::pair` meets its contract. Assumes nothing.
 use native.Mathlib.Omega.{arith}
 use Rattle.quick_lines.proofs.usual.pair.Statement.{statement}
 use Rattle.quick_lines.proofs.usual.pair.Tie as tie

@@ -1,4 +1,4 @@
--- `circuit::usual::qubit` meets its contract. Assumes nothing.
+-- `quick_lines::usual::qubit` meets its contract. Assumes nothing.
 use mathlib.Core.Path.{sym, _∙_}
 use Prim.Native.Nat.{_+_}
 use native.Mathlib.Omega.{arith}

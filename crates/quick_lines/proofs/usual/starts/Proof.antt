@@ -1,4 +1,4 @@
--- `circuit::usual::starts` meets its contract. Assumes nothing.
+-- `quick_lines::usual::starts` meets its contract. Assumes nothing.
 use mathlib.Core.Bool.{_&&_}
 use mathlib.Core.Path.{ap, ap₂}
 use Prim.Native.Nat.{ℕ, _+_}

@@ -1,4 +1,4 @@
--- `circuit::usual::two_at` meets its contract. Assumes nothing.
+-- `quick_lines::usual::two_at` meets its contract. Assumes nothing.
 use mathlib.Core.Path.{refl, _∙_, ap}
 use Prim.Native.Nat.{ℕ, _+_, _<_}
 use native.Mathlib.Omega.{arith}

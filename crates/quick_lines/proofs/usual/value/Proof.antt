@@ -1,4 +1,4 @@
--- `circuit::usual::value` meets its contract. Assumes nothing.
+-- `quick_lines::usual::value` meets its contract. Assumes nothing.
 use mathlib.Core.Path.{sym, _∙_}
 use native.Mathlib.Omega.{arith}
 use Rattle.quick_lines.proofs.UsualLines.{digit-least}

@@ -1,4 +1,4 @@
--- `circuit::usual::width` meets its contract. Assumes nothing.
+-- `quick_lines::usual::width` meets its contract. Assumes nothing.
 use mathlib.Core.Path.{sym, _∙_}
 use borrow.Author.Needs.{needs}
 use Rattle.quick_lines.proofs.usual.width.Statement.{statement}
