@@ -3,8 +3,7 @@
 ghost use mathlib.Core.Path.{_≡_};
 ghost use Prim.Native.Nat.{_≤_, _<_};
 ghost use Rattle.circuit.specs.Text.{measures};
-ghost use Rattle.quick_lines.specs.parts.Coded.{after-of, op-of, op-in, name-in, first-in, second-in, length-in};
-use clifford::After;
+ghost use Rattle.quick_lines.specs.parts.Coded.{following, after-of, op-of, op-in, name-in, first-in, second-in, length-in};
 
 pub fn pack(name: usize, a: usize, b: usize, length: usize) -> usize
     requires { ⌜ (name < 256) × (a < 256) × (b < 256) × (1 ≤ length) × (length < 256) ⌝ }
@@ -44,13 +43,9 @@ pub fn one_if_measure(code: usize) -> usize
     if name(code) == 77 { 1 } else { 0 }
 }
 
-// What follows, if it is a measurement.
-pub fn after(code: usize) -> After
-    ensures { λ r. ⌜ r ≡ after-of (second-in code) ⌝ }
+// Whether a measurement resets.
+pub fn resets(code: usize) -> bool
+    ensures { λ r. ⌜ following r ≡ after-of (second-in code) ⌝ }
 {
-    if second(code) == 0 {
-        After::Keep
-    } else {
-        After::Reset
-    }
+    second(code) != 0
 }

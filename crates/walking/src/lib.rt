@@ -3,12 +3,11 @@
 ghost use mathlib.Core.Path.{_≡_};
 ghost use Prim.Native.Nat.{_≤_, _<_};
 ghost use lib.ListN.{length, drop};
-ghost use Rattle.clifford.specs.Run.{Valid, afterwards};
-ghost use Rattle.quick_lines.specs.parts.Coded.{op-in, name-in};
+ghost use Rattle.clifford.specs.Run.{Valid};
+ghost use Rattle.quick_lines.specs.parts.Coded.{following, op-in, name-in};
 ghost use Rattle.packing.specs.View.{Words, rows-of};
 ghost use Rattle.records.specs.Record.{mark-of};
-ghost use Rattle.walking.specs.parts.Walk.{ShotAs, Room, MeasureAs, Applies, StepAs, Walkable, WalkAs};
-use clifford::After;
+ghost use Rattle.walking.specs.parts.Walk.{flipped, ShotAs, Room, MeasureAs, Applies, StepAs, Walkable, WalkAs};
 use clifford::Gate;
 use clifford::One;
 use columns::LowestRow;
@@ -21,19 +20,14 @@ enum Shot {
     NoCoin,
 }
 
-// What follows a measurement of a with this outcome.
-fn follow(d: &mut [u64; 129], s: &mut [u64; 129], n: usize, after: After, a: usize, outcome: bool)
+// X on a, where it is to be applied.
+fn flip(d: &mut [u64; 129], s: &mut [u64; 129], n: usize, a: usize, applies: bool)
     requires { ⌜ Words (now d) × Words (now s) × (n ≤ 64) × (a < n) ⌝ }
-    ensures { λ _. ⌜ Words (now (d .exit)) × Words (now (s .exit)) × (rows-of n (now (d .exit)) (now (s .exit)) ≡ afterwards after a outcome (rows-of n (now (d .entry)) (now (s .entry)))) ⌝ }
+    ensures { λ _. ⌜ Words (now (d .exit)) × Words (now (s .exit)) × (rows-of n (now (d .exit)) (now (s .exit)) ≡ flipped a applies (rows-of n (now (d .entry)) (now (s .entry)))) ⌝ }
 {
-    match after {
-        After::Keep => {}
-        After::Reset => {
-            if outcome {
-                columns::gate(d, Gate::One(One::PauliX, a));
-                columns::gate(s, Gate::One(One::PauliX, a));
-            }
-        }
+    if applies {
+        columns::gate(d, Gate::One(One::PauliX, a));
+        columns::gate(s, Gate::One(One::PauliX, a));
     }
 }
 
@@ -41,19 +35,19 @@ fn shoot(
     d: &mut [u64; 129],
     s: &mut [u64; 129],
     n: usize,
-    after: After,
+    reset: bool,
     a: usize,
     coins: &[u8],
     used: usize,
 ) -> Shot
     requires { ⌜ Words (now d) × Words (now s) × (n ≤ 64) × (a < n) × (used ≤ length (now coins)) ⌝ }
-    ensures { λ r. ⌜ Words (now (d .exit)) × Words (now (s .exit)) × ShotAs n after a (rows-of n (now (d .entry)) (now (s .entry))) (drop used (now (coins .entry))) r (rows-of n (now (d .exit)) (now (s .exit))) ⌝ }
+    ensures { λ r. ⌜ Words (now (d .exit)) × Words (now (s .exit)) × ShotAs n (following reset) a (rows-of n (now (d .entry)) (now (s .entry))) (drop used (now (coins .entry))) r (rows-of n (now (d .exit)) (now (s .exit))) ⌝ }
 {
     match columns::random_row(s, n, a) {
         LowestRow::Nothing => {
-            let value = measure_fixed::fixed_value(d, s, n, a);
-            follow(d, s, n, after, a, value);
-            Shot::Fixed(value)
+            let outcome = measure_fixed::fixed_value(d, s, n, a);
+            flip(d, s, n, a, reset & outcome);
+            Shot::Fixed(outcome)
         }
         LowestRow::At(p) => {
             if coins.len() <= used {
@@ -61,7 +55,7 @@ fn shoot(
             }
             let coin = coins[used] % 2 == 1;
             measure_random::collapse(d, s, n, a, p, coin);
-            follow(d, s, n, after, a, coin);
+            flip(d, s, n, a, reset & coin);
             Shot::Random(coin)
         }
     }
@@ -90,18 +84,18 @@ fn measure(
     s: &mut [u64; 129],
     marks: &mut [u8; 4096],
     n: usize,
-    after: After,
+    reset: bool,
     a: usize,
     coins: &[u8],
     tally: Tally,
     next: usize,
 ) -> Step
     requires { ⌜ Room n (now coins) (now d) (now s) (now marks) tally × (a < n) ⌝ }
-    ensures { λ r. ⌜ MeasureAs n after a (now (coins .entry)) (now (d .entry)) (now (s .entry)) (now (marks .entry)) tally next r (now (d .exit)) (now (s .exit)) (now (marks .exit)) ⌝ }
+    ensures { λ r. ⌜ MeasureAs n (following reset) a (now (coins .entry)) (now (d .entry)) (now (s .entry)) (now (marks .entry)) tally next r (now (d .exit)) (now (s .exit)) (now (marks .exit)) ⌝ }
 {
     let at = tally.measured;
     let used = tally.taken;
-    match shoot(d, s, n, after, a, coins, used) {
+    match shoot(d, s, n, reset, a, coins, used) {
         Shot::Fixed(value) => {
             marks[at] = mark(false, value);
             Step::Next(next, tally::stepped_numbers(at, tally.random, used, false))
@@ -155,9 +149,9 @@ fn turn(
     }
     let next = at + quick_lines::code::length(code);
     if quick_lines::code::name(code) == 77 {
-        let after = quick_lines::code::after(code);
+        let reset = quick_lines::code::resets(code);
         let a = quick_lines::code::first(code);
-        return measure(d, s, marks, n, after, a, coins, tally, next);
+        return measure(d, s, marks, n, reset, a, coins, tally, next);
     }
     apply(d, s, code);
     Step::Next(next, tally)

@@ -1,5 +1,5 @@
 -- An operation and the length of its line as one number, and what the functions that answer such a number promise. Assumes nothing.
-use mathlib.Core.Bool.{true, cond}
+use mathlib.Core.Bool.{Bool, true, not, cond}
 use mathlib.Core.List.{List}
 use mathlib.Core.Path.{_≡_}
 use Prim.Native.Nat.{ℕ, _+_, _/_, _%_, _<_}
@@ -17,9 +17,13 @@ use Rattle.circuit.specs.Lines.{space, is-digit, qubit, op-line}
 use Rattle.circuit.specs.Text.{all-below, apart, operations}
 use Rattle.circuit.specs.parts.Reading.{Stands}
 
--- what follows a measurement stands where a gate has its second qubit: 0 for M, and otherwise MR
+-- what follows a measurement, by whether it resets
+abbrev pub following : Bool → After
+following resets = cond resets Reset Keep
+
+-- it stands where a gate has its second qubit: 0 for M, and otherwise MR
 abbrev pub after-of : ℕ → After
-after-of b = cond (eqb b 0) Keep Reset
+after-of b = following (not (eqb b 0))
 
 -- 77 is a measurement, 1 is CX, 2 is CZ; any other is the letter of a gate on one qubit
 abbrev pub op-of : ℕ → ℕ → ℕ → Op

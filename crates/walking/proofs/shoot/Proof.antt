@@ -1,7 +1,7 @@
-use mathlib.Core.Path.{refl, sym}
+use mathlib.Core.Path.{refl}
 use Rattle.answers.proofs.First.{lowest-below}
 use Rattle.packing.specs.View.{rows-of}
-use Rattle.walking.proofs.Shots.{was-dry, was-random}
+use Rattle.walking.proofs.Shots.{was-fixed, was-dry, was-random}
 use borrow.Author.Needs.{needs}
 use Rattle.walking.proofs.shoot.Statement.{statement}
 use Rattle.walking.proofs.shoot.Tie as tie
@@ -15,8 +15,8 @@ enum-told c = search needs
 fixed-value-requires : tie.Need-fixed-value-requires
 fixed-value-requires c κs = search needs
 
-follow-requires : tie.Need-follow-requires
-follow-requires c κs = search needs
+flip-requires : tie.Need-flip-requires
+flip-requires c κs = search needs
 
 enum-known-p : tie.Need-enum-known-p
 enum-known-p c = search needs
@@ -36,22 +36,23 @@ collapse-requires c κs =
     let q = c .before .before .before .before .before in
     (search needs, search needs, search needs, search needs, lowest-below _ (e .args .n) (q .p .given .0 .0) (rw (q .p .given .1) at (q .before .before .random-row .ensures)))
 
-follow-requires-2 : tie.Need-follow-requires-2
-follow-requires-2 c κs = let e = c .before .before .before .before .before .before .before .before .before .before .before .before .before in (c .before .before .collapse .ensures .0, c .before .before .collapse .ensures .1, e .pre .2, e .pre .3)
+flip-requires-2 : tie.Need-flip-requires-2
+flip-requires-2 c κs = let e = c .before .before .before .before .before .before .before .before .before .before .before .before .before in (c .before .before .collapse .ensures .0, c .before .before .collapse .ensures .1, e .pre .2, e .pre .3)
 
 returns-2 : tie.Need-returns-2
 returns-2 c =
     let q = c .before .before .before .before .before .before in
-    let r = c .follow .ensures in
-    (r .0, r .1, record { kind = sym (rw (q .enum-told .given .1) at (q .before .before .random-row .ensures)); is = c .before .before .before .fixed-value .ensures; after = r .2 })
+    let r = c .flip .ensures in
+    let e = c .before .before .before .before .before .before .before .before .before .before .before in
+    (r .0, r .1, was-fixed (e .args .n) (e .args .a) (rows-of (e .args .n) (e .args .d .now) (e .args .s .now)) (e .args .coins .now) (e .args .used) (e .args .reset) _ _ (rw (q .enum-told .given .1) at (q .before .before .random-row .ensures)) (c .before .before .before .fixed-value .ensures) (r .2))
 
 returns-3 : tie.Need-returns-3
 returns-3 c =
     let e = c .before .before .before .before .before .before .before .before .before .before .before .before .before .before in
     let q = c .before .before .before .before .before .before .before .before .before in
     let w = c .before .before .before .collapse .ensures in
-    let r = c .follow2 .ensures in
-    (r .0, r .1, was-random (e .args .n) (e .args .a) (rows-of (e .args .n) (e .args .d .now) (e .args .s .now)) (e .args .coins .now) (e .args .used) (e .args .after) (q .p .given .0 .0) _ _ _ (rw (q .p .given .1) at (q .before .before .random-row .ensures)) (search needs) refl (w .2) (r .2))
+    let r = c .flip2 .ensures in
+    (r .0, r .1, was-random (e .args .n) (e .args .a) (rows-of (e .args .n) (e .args .d .now) (e .args .s .now)) (e .args .coins .now) (e .args .used) (e .args .reset) (q .p .given .0 .0) _ _ _ (rw (q .p .given .1) at (q .before .before .random-row .ensures)) (search needs) refl (w .2) (r .2))
 
 pub shoot-spec : {M : Type 1} → statement M
 shoot-spec =
@@ -60,11 +61,11 @@ shoot-spec =
     random-row-requires
     enum-told
     fixed-value-requires
-    follow-requires
+    flip-requires
     enum-known-p
     returns
     shared-slice-read-coin
     collapse-requires
-    follow-requires-2
+    flip-requires-2
     returns-2
     returns-3)

@@ -3,7 +3,7 @@ use mathlib.Core.Path.{_≡_, _∙_, ap}
 use Prim.Native.Nat.{ℕ, _+_}
 use native.Mathlib.Omega.{arith}
 use Rattle.clifford.specs.declared.Op.the-variants.{Measure as measure}
-use Rattle.quick_lines.specs.parts.Coded.{op-in}
+use Rattle.quick_lines.specs.parts.Coded.{following, op-in}
 use Rattle.circuit.proofs.Walk.{valid-op}
 use Rattle.quick_lines.proofs.Codes.{below-more, allowed-valid, is-measure}
 use Rattle.walking.proofs.Views.{measured-step, applied-step}
@@ -26,8 +26,8 @@ add-next c = omega (arith, c .length .ensures, (c .before .before .op-at .ensure
 name-requires : tie.Need-name-requires
 name-requires c κs = search needs
 
-after-requires : tie.Need-after-requires
-after-requires c κs = search needs
+resets-requires : tie.Need-resets-requires
+resets-requires c κs = search needs
 
 first-requires : tie.Need-first-requires
 first-requires c κs = search needs
@@ -46,10 +46,10 @@ returns-2 c =
     let o = c .before .before .before .before .before .before .before .before .before .before .op-at in
     let w = o .ensures .allows (omega (arith, c .before .before .before .before .before .before .before .before .before .if1 .left)) in
     let f = c .before .before .before .before .first in
-    let k = c .before .before .before .before .before .after in
+    let k = c .before .before .before .before .before .resets in
     let l = c .before .before .before .before .before .before .before .before .length in
-    let e : op-in (o .result) ≡ measure (k .result) (f .result) = rw (k .ensures) (is-measure (o .result) (c .before .before .before .before .before .before .before .name .result) (f .result) (c .before .before .before .before .before .before .before .name .ensures) (f .ensures) (c .before .before .before .before .before .before .if2 .taken)) in
-    measured-step (a .text .now) (a .at) (a .n) (k .result) (f .result) (a .coins .now) (a .d .now) (a .s .now) (a .marks .now) (a .tally) (a .at + l .result) (c .measure .result) _ _ _ (rw (l .ensures) (rw e at (w .stands))) (rw e at (w .below)) (c .measure .ensures)
+    let e : op-in (o .result) ≡ measure (following (k .result)) (f .result) = rw (k .ensures) (is-measure (o .result) (c .before .before .before .before .before .before .before .name .result) (f .result) (c .before .before .before .before .before .before .before .name .ensures) (f .ensures) (c .before .before .before .before .before .before .if2 .taken)) in
+    measured-step (a .text .now) (a .at) (a .n) (following (k .result)) (f .result) (a .coins .now) (a .d .now) (a .s .now) (a .marks .now) (a .tally) (a .at + l .result) (c .measure .result) _ _ _ (rw (l .ensures) (rw e at (w .stands))) (rw e at (w .below)) (c .measure .ensures)
 
 apply-requires : tie.Need-apply-requires
 apply-requires c κs =
@@ -72,7 +72,7 @@ turn-spec =
     length-requires
     add-next
     name-requires
-    after-requires
+    resets-requires
     first-requires
     measure-requires
     returns-2

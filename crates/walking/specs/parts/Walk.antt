@@ -1,5 +1,5 @@
 -- What the parts of a walk over the operation lines promise one another: a measurement, one line, and all lines. Assumes nothing.
-use mathlib.Core.Bool.{Bool, true}
+use mathlib.Core.Bool.{Bool, true, cond}
 use mathlib.Core.List.{List, [], _∷_, map}
 use mathlib.Core.Option.{none, some}
 use mathlib.Core.Path.{_≡_}
@@ -7,11 +7,13 @@ use Prim.Native.Nat.{ℕ, _≤_, _<_}
 use lib.ListN.{length, take, drop}
 use Rattle.clifford.specs.Limits.{most-operations}
 use Rattle.answers.specs.Verdict.{Verdict, accepted, refused}
+use Rattle.clifford.specs.declared.One.the-variants.{PauliX}
 use Rattle.clifford.specs.declared.Gate.{Gate}
+use Rattle.clifford.specs.declared.Gate.the-variants.{One as one}
 use Rattle.clifford.specs.declared.After.{After}
 use Rattle.clifford.specs.declared.Op.{Op}
 use Rattle.clifford.specs.declared.Op.the-variants.{Gate as apply, Measure as measure}
-use Rattle.clifford.specs.Tableau.{Rows, start}
+use Rattle.clifford.specs.Tableau.{Rows, start, gated}
 use Rattle.clifford.specs.Measurement.{random-row, collapsed, fixed-value}
 use Rattle.clifford.specs.Run.{State, begin, coin, afterwards, step, run}
 use Rattle.circuit.specs.Lines.{op-line}
@@ -29,6 +31,10 @@ use Rattle.walking.specs.declared.Walked.{Walked}
 use Rattle.walking.specs.declared.Walked.the-variants as walked
 use Rattle.tally.specs.declared.Tally.{Tally}
 use Rattle.tally.specs.Tally.{tally-of}
+
+-- X on a, where it is applied
+abbrev pub flipped : ℕ → Bool → Rows → Rows
+flipped a applies t = cond applies (gated (one PauliX a) t) t
 
 -- a fixed measurement, and what follows it
 pub record Fixed (n : ℕ) (f : After) (a : ℕ) (t : Rows) (value : Bool) (t′ : Rows) : Type 0 where
