@@ -4,6 +4,10 @@
    library's own; what is left to the caller is what C asks anyway: a pointer is not null and reaches as many bytes as its length says, and what is
    lent for writing overlaps nothing else that is lent.
 
+   A circuit text is line 1, `Q n`, and a line for each operation, each line closed by byte 10: H, S, X, Y, Z, M or MR and a qubit, or CX or CZ and
+   two, all parted by single spaces. Qubits count from 0, and the first of CX is its control. `M a` measures a. `MR a` measures as `M a` does and then
+   applies X on a when the outcome was 1; line, operation, outcome and coin count as those of M.
+
    The refusals, each given exactly when its line holds and no earlier one of the function's order does (lines count from 1, bytes from 0):
 
       1  line 1 is absent or not `Q n` with its end byte                  place: line 1

@@ -14,13 +14,13 @@ use Rattle.clifford.specs.declared.Gate.the-variants.{Two as two}
 use Rattle.clifford.specs.declared.After.the-variants.{Keep, Reset}
 use Rattle.clifford.specs.declared.Op.{Op}
 use Rattle.clifford.specs.declared.Op.the-variants.{Gate as apply, Measure as measure}
-use Rattle.circuit.specs.Lines.{Found, found, malformed, then-read, strip, space, number, Form, with-one, with-two, Name, names, qubit, numbers, named}
+use Rattle.circuit.specs.Lines.{Found, found, malformed, then-read, strip, space, number, Form, with-one, with-two, Name, names, qubit, operands, named}
 use Rattle.circuit.specs.parts.Reading.{qubits, Has, Spelled}
 use Rattle.circuit.proofs.Positions.{front, past, stripped}
 
 -- the numbers behind a name and its space, or what the other names say
 abbrev pub or-else : Form → Option (List ℕ) → Found Op → Found Op
-or-else form o v = elim o [ some rest ↦ numbers form rest | none ↦ v ]
+or-else form o v = elim o [ some rest ↦ operands form rest | none ↦ v ]
 
 -- a name with nothing but its space to come: no other has the same bytes so far
 pub spaced-qubits : (form : Form) (t : List ℕ) → or-else form (strip (space ∷ []) t) malformed ≡ qubits form t
@@ -35,7 +35,7 @@ spaced-qubits (with-two f) t = go (strip (space ∷ []) t)
     go (some rest) = refl
     go none = refl
 
-pub other-name : (e : Name) (es : List Name) (s : List ℕ) → strip (e .spelled ++ space ∷ []) s ≡ none → named (e ∷ es) s ≡ named es s
+other-name : (e : Name) (es : List Name) (s : List ℕ) → strip (e .spelled ++ space ∷ []) s ≡ none → named (e ∷ es) s ≡ named es s
 other-name e es s h = ap (λ o. or-else (e .form) o (named es s)) h
 
 -- the bytes of a longer name, by the first of them

@@ -51,7 +51,7 @@ valid-op n (apply (two g a c)) b d =
     (ltb-true a n (and-left (ltb a n) (ltb c n) b), ltb-true c n (and-right (ltb a n) (ltb c n) b), eqb-false a c (not-true (eqb a c) d))
 valid-op n (measure f a) b d = ltb-true a n b
 
-pub check-valid : (n line : ℕ) (op found-op : Op) → checked n line op ≡ accepted found-op → Valid n op
+check-valid : (n line : ℕ) (op found-op : Op) → checked n line op ≡ accepted found-op → Valid n op
 check-valid n line op o e =
     let rest : unless (apart op) 5 line (accepted op) ≡ accepted o = unless-passed (all-below n op) 4 line (unless (apart op) 5 line (accepted op)) o e in
     valid-op n op (unless-true (all-below n op) 4 line (unless (apart op) 5 line (accepted op)) o e) (unless-true (apart op) 5 line (accepted op) o rest)

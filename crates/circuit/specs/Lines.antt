@@ -77,14 +77,14 @@ abbrev pub qubit : List ℕ → Found ℕ
 qubit s = elim (strip (space ∷ []) s) [ some rest ↦ number rest | none ↦ malformed ]
 
 -- what stands behind a name and its space: a number, and where the form has two qubits a space and another
-abbrev pub numbers : Form → List ℕ → Found Op
-numbers (with-one f) s = then-read (number s) (λ a rest. found (f a) rest)
-numbers (with-two f) s = then-read (number s) (λ a rest. then-read (qubit rest) (λ b more. found (f a b) more))
+abbrev pub operands : Form → List ℕ → Found Op
+operands (with-one f) s = then-read (number s) (λ a rest. found (f a) rest)
+operands (with-two f) s = then-read (number s) (λ a rest. then-read (qubit rest) (λ b more. found (f a b) more))
 
 -- the name that stands at the front, with a space behind it, decides; there is at most one, in whatever order they are listed (`any-order` of proofs/Order.antt)
 abbrev pub named : List Name → List ℕ → Found Op
 named [] s = malformed
-named (e ∷ es) s = elim (strip (e .spelled ++ space ∷ []) s) [ some rest ↦ numbers (e .form) rest | none ↦ named es s ]
+named (e ∷ es) s = elim (strip (e .spelled ++ space ∷ []) s) [ some rest ↦ operands (e .form) rest | none ↦ named es s ]
 
 abbrev pub op-line : List ℕ → Found Op
 op-line s = then-read (named names s) (closed-by (end-byte ∷ []))

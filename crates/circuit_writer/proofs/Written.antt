@@ -17,7 +17,7 @@ use Rattle.clifford.specs.declared.After.the-variants.{Keep, Reset}
 use Rattle.clifford.specs.declared.Op.{Op}
 use Rattle.clifford.specs.declared.Op.the-variants.{Gate as apply, Measure as measure}
 use Rattle.clifford.specs.Run.{Valid, All-valid}
-use Rattle.circuit.specs.Lines.{found, is-digit, digits, number, with-one, with-two, numbers, named, names, op-line}
+use Rattle.circuit.specs.Lines.{found, is-digit, digits, number, with-one, with-two, operands, named, names, op-line}
 use Rattle.circuit.specs.Text.{Circuit, all-below, apart, checked, ends, operations, header, meaning}
 use Rattle.circuit.proofs.Digits.{digits-more, number-starts}
 use Rattle.checking.proofs.Meant.{meaning-read}
@@ -69,14 +69,14 @@ module _ (c : ℕ) (rest : List ℕ) (e : is-digit c ≡ false) where
   number-written v h = by-size v (ltb v 10) (ltb v 100) refl refl h
 
 -- a line
-one-name : (g : One) (t : List ℕ) → named names (one-letter g ∷ 32 ∷ t) ≡ numbers (with-one (λ a. apply (one g a))) t
+one-name : (g : One) (t : List ℕ) → named names (one-letter g ∷ 32 ∷ t) ≡ operands (with-one (λ a. apply (one g a))) t
 one-name H t = refl
 one-name S t = refl
 one-name PauliX t = refl
 one-name PauliY t = refl
 one-name PauliZ t = refl
 
-two-name : (g : Two) (t : List ℕ) → named names (67 ∷ two-letter g ∷ 32 ∷ t) ≡ numbers (with-two (λ a b. apply (two g a b))) t
+two-name : (g : Two) (t : List ℕ) → named names (67 ∷ two-letter g ∷ 32 ∷ t) ≡ operands (with-two (λ a b. apply (two g a b))) t
 two-name Cx t = refl
 two-name Cz t = refl
 
@@ -86,12 +86,12 @@ one-shape a rest = simp append-assoc
 two-shape : (a b : ℕ) (rest : List ℕ) → ((qubit-text a ++ qubit-text b) ++ 10 ∷ []) ++ rest ≡ 32 ∷ (short-decimal a ++ 32 ∷ (short-decimal b ++ 10 ∷ rest))
 two-shape a b rest = simp append-assoc
 
-one-read : (f : ℕ → Op) (a : ℕ) (s rest : List ℕ) → a < 1000 → named names s ≡ numbers (with-one f) (short-decimal a ++ 10 ∷ rest) → op-line s ≡ found (f a) rest
+one-read : (f : ℕ → Op) (a : ℕ) (s rest : List ℕ) → a < 1000 → named names s ≡ operands (with-one f) (short-decimal a ++ 10 ∷ rest) → op-line s ≡ found (f a) rest
 one-read f a s rest h n = rw (n, number-written 10 rest refl a h)
 
 two-read :
     (f : ℕ → ℕ → Op) (a b : ℕ) (s rest : List ℕ)
-    → a < 1000 → b < 1000 → named names s ≡ numbers (with-two f) (short-decimal a ++ 32 ∷ (short-decimal b ++ 10 ∷ rest)) → op-line s ≡ found (f a b) rest
+    → a < 1000 → b < 1000 → named names s ≡ operands (with-two f) (short-decimal a ++ 32 ∷ (short-decimal b ++ 10 ∷ rest)) → op-line s ≡ found (f a b) rest
 two-read f a b s rest h k n = rw (n, number-written 32 (short-decimal b ++ 10 ∷ rest) refl a h, number-written 10 rest refl b k)
 
 pub line-written : (op : Op) (rest : List ℕ) → Small op → op-line (line-text op ++ rest) ≡ found op rest

@@ -2,7 +2,7 @@
 use mathlib.Core.Path.{_≡_, refl}
 use mathlib.Core.Bool.{Bool, true, false, _&&_, cond}
 use mathlib.Core.List.{[], _∷_}
-use Prim.Native.Nat.{ℕ, _<_}
+use Prim.Native.Nat.{ℕ}
 use lib.Dec.{eqb}
 use borrow.Author.Tests.{eqb-true}
 use Rattle.pauli.specs.Letters.{_⊕_, z}
@@ -13,9 +13,8 @@ use Rattle.clifford.specs.declared.Gate.the-variants.{One as one}
 use Rattle.clifford.specs.declared.After.{After}
 use Rattle.clifford.specs.declared.After.the-variants.{Keep, Reset}
 use Rattle.clifford.specs.Gates.{new, gate}
-use Rattle.clifford.specs.Tableau.{Rows, Paired}
+use Rattle.clifford.specs.Tableau.{Rows}
 use Rattle.clifford.specs.Run.{afterwards}
-use Rattle.clifford.proofs.Pairing.{gate-paired}
 
 pub x-letters : (a : ℕ) (r : Letters) → new (one PauliX a) r ≡ r
 x-letters a r = λ i j. go j (eqb j a) refl i
@@ -45,8 +44,3 @@ pub afterwards-turns : (f : After) (a : ℕ) (outcome : Bool) (t : Rows) → aft
 afterwards-turns Keep a outcome t = refl
 afterwards-turns Reset a true t = λ i. record { destabilizer = λ k. x-row a (t .destabilizer k) i; stabilizer = λ k. x-row a (t .stabilizer k) i }
 afterwards-turns Reset a false t = λ i. record { destabilizer = λ k. no-turn a (t .destabilizer k) i; stabilizer = λ k. no-turn a (t .stabilizer k) i }
-
-pub afterwards-paired : (n : ℕ) (f : After) (a : ℕ) (outcome : Bool) (t : Rows) → a < n → Paired n t → Paired n (afterwards f a outcome t)
-afterwards-paired n Keep a outcome t h k = k
-afterwards-paired n Reset a true t h k = gate-paired n (one PauliX a) t h k
-afterwards-paired n Reset a false t h k = k

@@ -8,7 +8,8 @@ pub mod Spanning
 pub mod Fixed
 pub mod Again
 pub mod Resetting
-pub mod Merged
+pub mod Keeping
 pub mod Running
+pub mod Merged
 pub mod Alike
 pub mod Named

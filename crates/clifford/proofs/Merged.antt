@@ -4,8 +4,6 @@ use mathlib.Core.Bool.{true, false}
 use mathlib.Core.List.{List, [], _∷_, _++_}
 use mathlib.Core.Option.{Option, none, some}
 use Prim.Native.Nat.{ℕ, suc, _+_}
-use native.Mathlib.Nat.{add-zero}
-use native.Mathlib.Omega.{arith}
 use lib.ListN.{length}
 use Rattle.answers.specs.Verdict.{Verdict, accepted, refused, then}
 use Rattle.clifford.specs.declared.One.the-variants.{PauliX}
@@ -14,20 +12,8 @@ use Rattle.clifford.specs.declared.After.the-variants.{Keep, Reset}
 use Rattle.clifford.specs.declared.Op.{Op}
 use Rattle.clifford.specs.declared.Op.the-variants.{Gate as apply, Measure as measure}
 use Rattle.clifford.specs.Measurement.{Outcome, Answer, random-row, random-answer, fixed-answer}
-use Rattle.clifford.specs.Run.{State, coin, concluded, settle, step, run}
-
--- a run of two lists of operations goes on from where the first ends
-run-joined : (n line : ℕ) (ops more : List Op) (s : State) → run n line (ops ++ more) s ≡ then (run n line ops s) (run n (line + length ops) more)
-run-joined n line [] more s = ap (λ (k : ℕ). run n k more s) (sym (add-zero line))
-run-joined n line (op ∷ ops) more s = go (run-joined n (suc line) ops more) (step n line op s)
-  where
-    later : suc line + length ops ≡ line + suc (length ops)
-    later = omega arith
-
-    go : ((t : State) → run n (suc line) (ops ++ more) t ≡ then (run n (suc line) ops t) (run n (suc line + length ops) more)) → (v : Verdict State)
-        → then v (run n (suc line) (ops ++ more)) ≡ then (then v (run n (suc line) ops)) (run n (line + suc (length ops)) more)
-    go ih (accepted t) = ih t ∙ ap (λ (k : ℕ). then (run n (suc line) ops t) (run n k more)) later
-    go ih (refused number place) = refl
+use Rattle.clifford.specs.Run.{State, coin, concluded, settle, run}
+use Rattle.clifford.proofs.Running.{run-joined}
 
 -- the last of a list that is not empty
 last : Outcome → List Outcome → Outcome

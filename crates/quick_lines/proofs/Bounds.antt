@@ -8,7 +8,7 @@ use native.Mathlib.Omega.{arith}
 use lib.Dec.{eqb}
 use lib.ListN.{length, drop, length-append, length-drop}
 use Rattle.clifford.specs.declared.Op.{Op}
-use Rattle.circuit.specs.Lines.{Found, found, malformed, then-read, strip, closed-by, end-byte, space, is-digit, digits, number, Form, with-one, with-two, Name, names, qubit, numbers, named, op-line}
+use Rattle.circuit.specs.Lines.{Found, found, malformed, then-read, strip, closed-by, end-byte, space, is-digit, digits, number, Form, with-one, with-two, Name, names, qubit, operands, named, op-line}
 use Rattle.circuit.specs.parts.Reading.{Stands}
 use Rattle.circuit.proofs.Positions.{stripped}
 use Rattle.circuit.proofs.Names.{or-else}
@@ -67,9 +67,9 @@ and-then {B = B} k m s (found a rest) f w h = go (f a rest) (h a rest)
     go malformed v = tt
 and-then k m s malformed f w h = tt
 
-numbers-within : (g : Form) (s : List ℕ) → Within 7 s (numbers g s)
-numbers-within (with-one f) s = more 3 7 s (numbers (with-one f) s) (omega arith) (and-then 3 0 s (number s) (λ a rest. found (f a) rest) (number-within s) (λ a t. omega arith))
-numbers-within (with-two f) s =
+operands-within : (g : Form) (s : List ℕ) → Within 7 s (operands g s)
+operands-within (with-one f) s = more 3 7 s (operands (with-one f) s) (omega arith) (and-then 3 0 s (number s) (λ a rest. found (f a) rest) (number-within s) (λ a t. omega arith))
+operands-within (with-two f) s =
     and-then 3 4 s (number s) (λ a rest. then-read (qubit rest) (λ b more. found (f a b) more)) (number-within s)
     (λ a t. and-then 4 0 t (qubit t) (λ b more. found (f a b) more) (qubit-within t) (λ b u. omega arith))
 
@@ -84,8 +84,8 @@ named-within (e ∷ es) s h = go (strip (e .spelled ++ space ∷ []) s) refl (na
   where
     go : (o : Option (List ℕ)) → strip (e .spelled ++ space ∷ []) s ≡ o → Within 10 s (named es s) → Within 10 s (or-else (e .form) o (named es s))
     go (some rest) q w =
-        more (length (e .spelled ++ space ∷ []) + 7) 10 s (numbers (e .form) rest) (omega (arith, h .0, length-append (e .spelled) (space ∷ [])))
-        (behind 7 (e .spelled ++ space ∷ []) s rest (numbers (e .form) rest) (front-length (e .spelled ++ space ∷ []) s rest q) (numbers-within (e .form) rest))
+        more (length (e .spelled ++ space ∷ []) + 7) 10 s (operands (e .form) rest) (omega (arith, h .0, length-append (e .spelled) (space ∷ [])))
+        (behind 7 (e .spelled ++ space ∷ []) s rest (operands (e .form) rest) (front-length (e .spelled ++ space ∷ []) s rest q) (operands-within (e .form) rest))
     go none q w = w
 
 closed-within : {A : Type 0} (a : A) (s : List ℕ) → Within 1 s (closed-by (end-byte ∷ []) a s)

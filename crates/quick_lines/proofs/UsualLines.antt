@@ -10,7 +10,7 @@ use lib.Dec.{leb}
 use lib.ListN.{length, getD, drop}
 use Rattle.clifford.specs.declared.Op.{Op}
 use Rattle.circuit.specs.declared.Line.the-variants as line
-use Rattle.circuit.specs.Lines.{space, is-digit, number, with-one, with-two, names, qubit, numbers, named, op-line}
+use Rattle.circuit.specs.Lines.{space, is-digit, number, with-one, with-two, names, qubit, operands, named, op-line}
 use Rattle.circuit.specs.Text.{all-below, apart}
 use Rattle.circuit.specs.parts.Reading.{qubits, Stands, Has, Spelled}
 use Rattle.quick_lines.specs.parts.Coded.{op-of, op-in, length-in, digits-by, Ends-by, Allowed}
@@ -111,7 +111,7 @@ module _ (s : List ℕ) (at n : ℕ) (h : at + 9 ≤ length s) where
       let z : at + length-in code ≡ last + 1 = omega (arith, k) in
       record { stands = rw (o, z) r; below = rw o b; parted = rw o d }
 
-  pub usual-one : (c a code : ℕ) → getD s at 0 ≡ c → 2 < c → ((t : List ℕ) → named names (c ∷ space ∷ t) ≡ numbers (with-one (λ a. op-of c a 0)) t)
+  pub usual-one : (c a code : ℕ) → getD s at 0 ≡ c → 2 < c → ((t : List ℕ) → named names (c ∷ space ∷ t) ≡ operands (with-one (λ a. op-of c a 0)) t)
       → Ends-by s (at + 1) 10 a → a < n → op-in code ≡ op-of c a 0 → length-in code ≡ 3 + digits-by (getD s (at + 3) 0) → Allowed s at n code
   usual-one c a code e l names-it q m o k =
       let p : at + 1 + 2 ≡ at + 3 = omega arith in
@@ -128,7 +128,7 @@ module _ (s : List ℕ) (at n : ℕ) (h : at + 9 ≤ length s) where
       one-qubit (λ x. op-of 77 x 1) (at + 2) a code (omega arith) sp q o (rw p (omega (arith, k))) (letter-below 77 (omega arith) n a 1 m) refl
 
   pub usual-two : (name a b code : ℕ) → getD s at 0 ≡ 67 → 0 < name → name ≤ 2
-      → ((t : List ℕ) → named names (67 ∷ getD s (at + 1) 0 ∷ space ∷ t) ≡ numbers (with-two (op-of name)) t)
+      → ((t : List ℕ) → named names (67 ∷ getD s (at + 1) 0 ∷ space ∷ t) ≡ operands (with-two (op-of name)) t)
       → (front-is : ℕ) → front-is ≡ 3 + digits-by (getD s (at + 4) 0) → Ends-by s (at + 2) 32 a → Ends-by s (at + front-is) 10 b → a < n → b < n → (a ≡ b → ⊥)
       → op-in code ≡ op-of name a b → length-in code ≡ front-is + 2 + digits-by (getD s (at + front-is + 2) 0) → Allowed s at n code
   usual-two name a b code e l m names-it v ev p q la lb d o k =

@@ -6,12 +6,12 @@ ghost use mathlib.Core.Path.{_≡_};
 ghost use Prim.Native.Nat.{ℕ, _+_, _-_, _*_, _≤_, _<_};
 ghost use lib.Dec.{leb};
 ghost use lib.ListN.{length, getD};
-ghost use Rattle.circuit.specs.Lines.{space, is-digit, with-one, with-two, names, numbers, named};
+ghost use Rattle.circuit.specs.Lines.{space, is-digit, with-one, with-two, names, operands, named};
 ghost use Rattle.quick_lines.specs.parts.Coded.{op-of, digits-by, QubitAt, Usual};
 
 // The name of an operation on one qubit, if it is a single letter.
 fn single(c: u8) -> bool
-    ensures { λ r. ⌜ (r ≡ true → (2 < c) × ((t : List ℕ) → named names (c ∷ space ∷ t) ≡ numbers (with-one (λ a. op-of c a 0)) t)) ⌝ }
+    ensures { λ r. ⌜ (r ≡ true → (2 < c) × ((t : List ℕ) → named names (c ∷ space ∷ t) ≡ operands (with-one (λ a. op-of c a 0)) t)) ⌝ }
 {
     match c {
         72 => true,
@@ -26,7 +26,7 @@ fn single(c: u8) -> bool
 
 // The letter behind C: 1 for X, 2 for Z.
 fn pair(c: u8) -> usize
-    ensures { λ r. ⌜ (r ≤ 2) × (0 < r → (t : List ℕ) → named names (67 ∷ c ∷ space ∷ t) ≡ numbers (with-two (op-of r)) t) ⌝ }
+    ensures { λ r. ⌜ (r ≤ 2) × (0 < r → (t : List ℕ) → named names (67 ∷ c ∷ space ∷ t) ≡ operands (with-two (op-of r)) t) ⌝ }
 {
     match c {
         88 => 1,

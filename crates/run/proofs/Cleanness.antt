@@ -1,27 +1,19 @@
 -- A run's rows have no letter from n on, and no row stands from number n on: every operation keeps that. Assumes nothing.
 use mathlib.Core.Path.{_≡_, _∙_, ap, ap₂}
 use mathlib.Core.Bool.{Bool, true, false, cond}
-use mathlib.Core.List.{List, [], _∷_}
-use mathlib.Core.Option.{Option, none, some}
-use Prim.Native.Nat.{ℕ, suc, _≤_, _<_}
+use Prim.Native.Nat.{ℕ, _≤_, _<_}
 use native.Mathlib.Omega.{arith}
 use lib.Dec.{eqb}
 use borrow.Author.Tests.{ne-eqb}
-use Rattle.answers.specs.Verdict.{Verdict, accepted, refused, then}
-use Rattle.answers.proofs.First.{Answer, lowest-is}
 use Rattle.pauli.specs.Letters.{I, _·_}
 use Rattle.pauli.specs.Rows.{Letters, Row, times-row}
-use Rattle.clifford.specs.declared.One.the-variants.{PauliX}
 use Rattle.clifford.specs.declared.Gate.{Gate}
 use Rattle.clifford.specs.declared.Gate.the-variants.{One as one, Two as two}
-use Rattle.clifford.specs.declared.After.{After}
-use Rattle.clifford.specs.declared.After.the-variants.{Keep, Reset}
-use Rattle.clifford.specs.declared.Op.{Op}
-use Rattle.clifford.specs.declared.Op.the-variants.{Gate as apply, Measure as measure}
 use Rattle.clifford.specs.Gates.{new, gate, Fits}
-use Rattle.clifford.specs.Tableau.{Rows, gated}
-use Rattle.clifford.specs.Measurement.{has-x, random-row, cleared, settled, collapsed, fixed-value}
-use Rattle.clifford.specs.Run.{State, coin, afterwards, settle, step, run, Valid, All-valid}
+use Rattle.clifford.specs.Tableau.{Rows}
+use Rattle.clifford.specs.Measurement.{has-x, cleared, settled, collapsed}
+use Rattle.clifford.specs.Run.{coin}
+use Rattle.clifford.proofs.Keeping.{Keeps}
 use Rattle.tableau.proofs.Gated.{gate-blank}
 use Rattle.records.proofs.Held.{Tidy, Clean}
 
@@ -53,31 +45,8 @@ clean-collapsed n a p c t ha hp k = record {
   stabilizers = tidy-at n p (settled a c) _ hp (λ j h. rw (ne-eqb j a (λ q. omega arith))) (tidy-cleared n a (t .stabilizer p) (t .stabilizer) (k .stabilizers .letters p) (k .stabilizers));
 }
 
-clean-gated : (n : ℕ) (g : Gate) (t : Rows) → Fits n g → Clean n t → Clean n (gated g t)
-clean-gated n g t v k = record { destabilizers = tidy-gate n g _ v (k .destabilizers); stabilizers = tidy-gate n g _ v (k .stabilizers) }
-
-clean-afterwards : (n : ℕ) (f : After) (a : ℕ) (outcome : Bool) (t : Rows) → a < n → Clean n t → Clean n (afterwards f a outcome t)
-clean-afterwards n Keep a outcome t h k = k
-clean-afterwards n Reset a true t h k = clean-gated n (one PauliX a) t h k
-clean-afterwards n Reset a false t h k = k
-
-abbrev pub Kept : ℕ → Verdict State → Type 0
-Kept n (accepted s) = Clean n (s .rows)
-Kept n (refused number place) = Unit {0}
-
-step-clean : (n line : ℕ) (op : Op) (s : State) → Valid n op → Clean n (s .rows) → Kept n (step n line op s)
-step-clean n line (apply g) s v k = clean-gated n g (s .rows) v k
-step-clean n line (measure f a) s v k = go (random-row n a (s .rows)) (s .coins) (lowest-is (λ i. has-x a (s .rows .stabilizer i)) n)
-  where
-    go : (o : Option ℕ) (coins : List ℕ) → Answer (λ i. has-x a (s .rows .stabilizer i)) n o → Kept n (settle n line f a s o coins)
-    go none coins l = clean-afterwards n f a (fixed-value n a (s .rows)) (s .rows) v k
-    go (some p) [] l = tt
-    go (some p) (byte ∷ coins) l = clean-afterwards n f a (coin byte) (collapsed n a p (coin byte) (s .rows)) v (clean-collapsed n a p (coin byte) (s .rows) v (l .below) k)
-
-pub run-clean : (n line : ℕ) (ops : List Op) (s : State) → All-valid n ops → Clean n (s .rows) → Kept n (run n line ops s)
-run-clean n line [] s v k = k
-run-clean n line (op ∷ ops) s v k = go (λ next m. run-clean n (suc line) ops next (v .1) m) (step n line op s) (step-clean n line op s (v .0) k)
-  where
-    go : ((next : State) → Clean n (next .rows) → Kept n (run n (suc line) ops next)) → (w : Verdict State) → Kept n w → Kept n (then w (run n (suc line) ops))
-    go ih (accepted next) m = ih next m
-    go ih (refused number place) m = tt
+pub cleaning : (n : ℕ) → Keeps n (Clean n)
+cleaning n = record {
+  by-gate = λ g t v k. record { destabilizers = tidy-gate n g _ v (k .destabilizers); stabilizers = tidy-gate n g _ v (k .stabilizers) };
+  by-random = λ a p coin t ha hp _ k. clean-collapsed n a p coin t ha hp k;
+}

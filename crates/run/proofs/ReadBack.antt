@@ -8,21 +8,23 @@ use lib.Dec.{leb}
 use lib.ListN.{length, length-map}
 use Rattle.answers.specs.Verdict.{Verdict, accepted, unless}
 use Rattle.clifford.specs.declared.Op.{Op}
+use Rattle.clifford.specs.Tableau.{Paired}
 use Rattle.clifford.specs.Run.{State, run, All-valid, begin}
 use Rattle.clifford.proofs.Start.{start-paired}
-use Rattle.clifford.proofs.Running.{Good, run-good, Reached, every-prefix}
+use Rattle.clifford.proofs.Keeping.{Kept, run-keeps}
+use Rattle.clifford.proofs.Running.{pairing, Reached, every-prefix}
 use Rattle.circuit.specs.Text.{Circuit, meaning, count-measured}
 use Rattle.circuit.proofs.Walk.{then-accepted, unless-passed}
 use Rattle.checking.proofs.Meant.{parts}
 use Rattle.records.specs.Record.{mark, record-of, record-length}
 use Rattle.records.specs.Reading.{read-of}
 use Rattle.records.proofs.Lengths.{length-record}
-use Rattle.records.proofs.Held.{Held}
+use Rattle.records.proofs.Held.{Held, Clean}
 use Rattle.records.proofs.Outcomes.{outcomes-marked}
 use Rattle.records.proofs.Start.{start-clean}
 use Rattle.records.proofs.Written.{written-reads}
 use Rattle.run.specs.Run.{Sheet, sheet, run-circuit, run-of}
-use Rattle.run.proofs.Cleanness.{Kept, run-clean}
+use Rattle.run.proofs.Cleanness.{cleaning}
 use Rattle.walking.proofs.Counting.{run-count, measured-few}
 
 -- the circuit of an accepted run, and the state in which it ended
@@ -63,8 +65,8 @@ module _ (text coins : List ℕ) (s : Sheet) (a : Accepted-run text coins s) whe
         most = p .few-qubits;
         few = omega (arith, length-map (a .state .outcomes) mark, run-count (a .circuit .qubits) 2 (a .circuit .ops) (begin (a .circuit .qubits) coins) (a .state) (a .ran), measured-few (a .circuit .ops), p .few-operations);
         marked = outcomes-marked (a .state .outcomes);
-        paired = subst (Good (a .circuit .qubits)) (a .ran) (run-good (a .circuit .qubits) 2 (a .circuit .ops) (begin (a .circuit .qubits) coins) (p .valid) (start-paired (a .circuit .qubits)));
-        clean = subst (Kept (a .circuit .qubits)) (a .ran) (run-clean (a .circuit .qubits) 2 (a .circuit .ops) (begin (a .circuit .qubits) coins) (p .valid) (start-clean (a .circuit .qubits)));
+        paired = subst (Kept (Paired (a .circuit .qubits))) (a .ran) (run-keeps (a .circuit .qubits) (Paired (a .circuit .qubits)) (pairing (a .circuit .qubits)) 2 (a .circuit .ops) (begin (a .circuit .qubits) coins) (p .valid) (start-paired (a .circuit .qubits)));
+        clean = subst (Kept (Clean (a .circuit .qubits))) (a .ran) (run-keeps (a .circuit .qubits) (Clean (a .circuit .qubits)) (cleaning (a .circuit .qubits)) 2 (a .circuit .ops) (begin (a .circuit .qubits) coins) (p .valid) (start-clean (a .circuit .qubits)));
       }
 
   -- the record that the run writes reads back as the same outcomes and rows, after any bytes
