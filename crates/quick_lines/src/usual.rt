@@ -87,6 +87,24 @@ fn qubit(s: &[u8], at: usize, n: usize, stop: u8) -> usize
     value(first, second)
 }
 
+// MR and a qubit, where M and a qubit is not what stands there.
+fn reset_at(s: &[u8], at: usize, n: usize) -> usize
+    requires { ⌜ (at + 9 ≤ length (now s)) × (n ≤ 64) ⌝ }
+    ensures { λ r. ⌜ Usual (now (s .entry)) at n r ⌝ }
+{
+    if s[at] != 77 {
+        return 0;
+    }
+    if s[at + 1] != 82 {
+        return 0;
+    }
+    let a = qubit(s, at + 2, n, 10);
+    if n <= a {
+        return 0;
+    }
+    crate::code::pack(77, a, 1, 4 + width(s[at + 4]))
+}
+
 fn one_at(s: &[u8], at: usize, n: usize, c: u8) -> usize
     requires { ⌜ (at + 9 ≤ length (now s)) × (getD (now s) at 0 ≡ c) × (n ≤ 64) ⌝ }
     ensures { λ r. ⌜ Usual (now (s .entry)) at n r ⌝ }
@@ -96,21 +114,9 @@ fn one_at(s: &[u8], at: usize, n: usize, c: u8) -> usize
     }
     let a = qubit(s, at + 1, n, 10);
     if n <= a {
-        return 0;
+        return reset_at(s, at, n);
     }
     crate::code::pack(c as usize, a, 0, 3 + width(s[at + 3]))
-}
-
-// MR and a qubit.
-fn reset_at(s: &[u8], at: usize, n: usize) -> usize
-    requires { ⌜ (at + 9 ≤ length (now s)) × (getD (now s) at 0 ≡ 77) × (getD (now s) (at + 1) 0 ≡ 82) × (n ≤ 64) ⌝ }
-    ensures { λ r. ⌜ Usual (now (s .entry)) at n r ⌝ }
-{
-    let a = qubit(s, at + 2, n, 10);
-    if n <= a {
-        return 0;
-    }
-    crate::code::pack(77, a, 1, 4 + width(s[at + 4]))
 }
 
 fn two_at(s: &[u8], at: usize, n: usize) -> usize
@@ -149,11 +155,6 @@ pub fn line_at(s: &[u8], at: usize, n: usize) -> usize
     let c = s[at];
     if c == 67 {
         return two_at(s, at, n);
-    }
-    if c == 77 {
-        if s[at + 1] == 82 {
-            return reset_at(s, at, n);
-        }
     }
     one_at(s, at, n, c)
 }

@@ -8,7 +8,6 @@ ghost use Rattle.quick_lines.specs.parts.Coded.{following, op-in, name-in};
 ghost use Rattle.packing.specs.View.{Words, rows-of};
 ghost use Rattle.records.specs.Record.{mark-of};
 ghost use Rattle.walking.specs.parts.Walk.{flipped, ShotAs, Room, MeasureAs, Applies, StepAs, Walkable, WalkAs};
-use clifford::Gate;
 use clifford::One;
 use columns::LowestRow;
 use tally::Tally;
@@ -26,8 +25,9 @@ fn flip(d: &mut [u64; 129], s: &mut [u64; 129], n: usize, a: usize, applies: boo
     ensures { λ _. ⌜ Words (now (d .exit)) × Words (now (s .exit)) × (rows-of n (now (d .exit)) (now (s .exit)) ≡ flipped a applies (rows-of n (now (d .entry)) (now (s .entry)))) ⌝ }
 {
     if applies {
-        columns::gate(d, Gate::One(One::PauliX, a));
-        columns::gate(s, Gate::One(One::PauliX, a));
+        let x = clifford::letter(One::PauliX) as usize;
+        columns::one(d, x, a);
+        columns::one(s, x, a);
     }
 }
 

@@ -22,23 +22,11 @@ two-at-requires c κs = search needs
 returns-3 : tie.Need-returns-3
 returns-3 c = search needs
 
-add-if5 : tie.Need-add-if5
-add-if5 c = search needs
-
-shared-slice-read-if5 : tie.Need-shared-slice-read-if5
-shared-slice-read-if5 c = search needs
-
-reset-at-requires : tie.Need-reset-at-requires
-reset-at-requires c κs = search needs
-
-returns-4 : tie.Need-returns-4
-returns-4 c = search needs
-
 one-at-requires : tie.Need-one-at-requires
 one-at-requires c κs = search needs
 
-returns-5 : tie.Need-returns-5
-returns-5 c = search needs
+returns-4 : tie.Need-returns-4
+returns-4 c = search needs
 
 pub line-at-spec : {M : Type 1} → statement M
 line-at-spec =
@@ -50,9 +38,5 @@ line-at-spec =
     shared-slice-read-c
     two-at-requires
     returns-3
-    add-if5
-    shared-slice-read-if5
-    reset-at-requires
-    returns-4
     one-at-requires
-    returns-5)
+    returns-4)

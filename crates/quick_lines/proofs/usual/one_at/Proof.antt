@@ -21,8 +21,11 @@ add-qubit c = search needs
 qubit-requires : tie.Need-qubit-requires
 qubit-requires c κs = search needs
 
+reset-at-requires : tie.Need-reset-at-requires
+reset-at-requires c κs = search needs
+
 returns-2 : tie.Need-returns-2
-returns-2 c = λ h. absurd (omega arith)
+returns-2 c = search needs
 
 add-width : tie.Need-add-width
 add-width c = search needs
@@ -58,6 +61,7 @@ one-at-spec =
     returns
     add-qubit
     qubit-requires
+    reset-at-requires
     returns-2
     add-width
     shared-slice-read-width
