@@ -1,5 +1,5 @@
 // The public face of the library: every function that a user calls, with the promise that he relies on. Nothing is required of any argument. Each promise cites
-// a definition in the words of document 01: `check-of` and `meaning` (crate circuit), `run-of` (run), `read-of` (records), `copy-of` and `same-of` (archive)
+// a definition in the words of document 01: `check-of` (crate checking), `meaning` (circuit), `run-of` (run), `read-of` (records), `copy-of` and `same-of` (archive)
 // and `product-of` (product); `Writes`, `Runs` and `Hands` say what becomes of the answer, the coins and the lent bytes.
 ghost use mathlib.Core.Path.{_≡_};
 ghost use Rattle.answers.specs.Refusals.{Writes};
