@@ -11,7 +11,7 @@
    The refusals, each given exactly when its line holds and no earlier one of the function's order does (lines count from 1, bytes from 0):
 
       1  line 1 is absent or not `Q n` with its end byte                  place: line 1
-      2  n is not 1 to 64                                                 place: line 1
+      2  n is not 1 to 128                                                place: line 1
       3  an operation line is malformed or lacks its end byte             place: the line
       4  a qubit is n or more                                             place: the line
       5  CX or CZ names one qubit twice                                   place: the line
@@ -23,7 +23,7 @@
                                                                           first row, then the second)
      11  the rows are not properly paired                                 place: lower row of the first wrong pair
      12  the two rows of a product anticommute                            place: 0
-     13  the two rows differ in length, or have not 2 to 65 bytes         place: 0
+     13  the two rows differ in length, or have not 2 to 129 bytes        place: 0
 
    After a refusal every byte of each lent buffer is as before. After success only the answer's bytes at the front are new; all behind them are as
    before. The longest record has SENGHOVAI_LONGEST_RECORD bytes, the longest row SENGHOVAI_LONGEST_ROW: with that much room 8 is never given. */
@@ -33,8 +33,8 @@
 #include <stddef.h>
 #include <stdint.h>
 
-#define SENGHOVAI_LONGEST_RECORD 12428
-#define SENGHOVAI_LONGEST_ROW 65
+#define SENGHOVAI_LONGEST_RECORD 37132
+#define SENGHOVAI_LONGEST_ROW 129
 
 #ifdef __cplusplus
 extern "C" {
@@ -65,7 +65,7 @@ uint64_t senghovai_read(const uint8_t *bytes, size_t len, uint64_t answer[5]);
    answer: place, length */
 uint64_t senghovai_copy(const uint8_t *bytes, size_t len, uint8_t *out, size_t out_len, uint64_t answer[2]);
 
-/* Multiplies two rows, each `+` or `-` and 1 to 64 letters I, X, Y, Z, and writes the product in the same form. Accepted: how many bytes were
+/* Multiplies two rows, each `+` or `-` and 1 to 128 letters I, X, Y, Z, and writes the product in the same form. Accepted: how many bytes were
    written at the front of `out`. Refusals in order: 13, 10, 12, 8. When refused, every byte of `out` is as before.
    answer: place, length */
 uint64_t senghovai_product(const uint8_t *first, size_t first_len, const uint8_t *second, size_t second_len,

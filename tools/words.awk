@@ -139,9 +139,9 @@ function end_told(k,   right) {
     if (!read_end(k)) return file(k) ", which has " size[k] + 0 " byte(s), less than a record's 12 last"
     right = 12 + 2 * wide * (wide + 1)
     return file(k) ", last 12 bytes, " (!is_marked ? "of which the last two are not SR" : \
-        wide < 1 || wide > 64 ? "where n is " wide ", not 1 to 64" : \
+        wide < 1 || wide > most_qubits ? "where n is " wide ", not 1 to " most_qubits : \
         rows_back != right ? "where the rows' distance is " rows_back ", and with n = " wide " it is " right : \
-        "where the start's distance is " start_back ", and has to be " right " to " right + 4096 " and within the file's " size[k] " bytes")
+        "where the start's distance is " start_back ", and has to be " right " to " right + most_operations " and within the file's " size[k] " bytes")
 }
 
 # A byte of the record, and the same byte of the file.

@@ -1,8 +1,9 @@
 -- The number and the place of each refusal: document 01's table; and the promise of a function that writes into a lent buffer. Assumes nothing.
 use mathlib.Core.Path.{_≡_}
 use mathlib.Core.List.{List}
-use Prim.Native.Nat.{ℕ}
+use Prim.Native.Nat.{ℕ, _+_}
 use lib.ListN.{length}
+use Rattle.limits.specs.Limits.{most-operations}
 use Rattle.answers.specs.declared.Refusal.{Refusal}
 use Rattle.answers.specs.declared.Refusal.the-variants.{NotQubits, QubitCount, Malformed, NoSuchQubit, QubitTwice, TooManyOperations, NoCoin, NoRoom, NoRecord, BadByte, NotPaired, Anticommuting, RowLengths}
 use Rattle.answers.specs.declared.Written.{Written}
@@ -30,7 +31,7 @@ placeOf QubitCount = 1
 placeOf (Malformed line) = line
 placeOf (NoSuchQubit line) = line
 placeOf (QubitTwice line) = line
-placeOf TooManyOperations = 4098
+placeOf TooManyOperations = most-operations + 2
 placeOf (NoCoin line) = line
 placeOf NoRoom = 0
 placeOf NoRecord = 0

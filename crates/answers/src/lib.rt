@@ -53,7 +53,7 @@ pub fn place(r: Refusal) -> usize
         Refusal::Malformed(line) => line,
         Refusal::NoSuchQubit(line) => line,
         Refusal::QubitTwice(line) => line,
-        Refusal::TooManyOperations => 4098,
+        Refusal::TooManyOperations => limits::MOST_OPERATIONS + 2,
         Refusal::NoCoin(line) => line,
         Refusal::NoRoom => 0,
         Refusal::NoRecord => 0,

@@ -44,13 +44,13 @@ all-made f (suc n) h = ap₂ _&&_ (all-made f n (λ i l. h i (omega arith))) (h 
 
 -- ---- bits, letters, rows
 
-bits-same : (a b : Bool) → equal-bits a b ≡ true → a ≡ b
+pub bits-same : (a b : Bool) → equal-bits a b ≡ true → a ≡ b
 bits-same true true e = refl
 bits-same true false e = sym e
 bits-same false true e = e
 bits-same false false e = refl
 
-bit-itself : (a : Bool) → equal-bits a a ≡ true
+pub bit-itself : (a : Bool) → equal-bits a a ≡ true
 bit-itself true = refl
 bit-itself false = refl
 

@@ -1,2 +1,3 @@
 pub mod Copy
 pub mod Same
+pub mod parts

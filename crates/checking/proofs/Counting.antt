@@ -5,6 +5,7 @@ use mathlib.Core.Path.{_≡_, refl, sym, _∙_, ap}
 use Prim.Native.Nat.{ℕ, suc, _+_, _-_, _≤_, _<_}
 use native.Mathlib.Omega.{arith}
 use lib.ListN.{length, drop}
+use Rattle.limits.specs.Limits.{most-operations}
 use Rattle.answers.specs.Verdict.{Verdict, accepted, refused, then}
 use Rattle.clifford.specs.declared.Op.{Op}
 use Rattle.circuit.specs.Lines.{Found, found, malformed, op-line}
@@ -78,46 +79,46 @@ added-none ops =
 -- where a pass stands: the whole count is what was counted, and the count of what is left
 pub record Counting (n : ℕ) (s : List ℕ) (body at count measured : ℕ) : Type 0 where
   pub same :
-      then (operations n (4096 - count) (count + 2) (drop at s)) (λ ops. accepted (added count measured ops))
-      ≡ then (operations n 4096 2 (drop body s)) (λ ops. accepted (counts ops))
-  pub enough : count ≤ 4096
+      then (operations n (most-operations - count) (count + 2) (drop at s)) (λ ops. accepted (added count measured ops))
+      ≡ then (operations n most-operations 2 (drop body s)) (λ ops. accepted (counts ops))
+  pub enough : count ≤ most-operations
   pub few : measured ≤ count
 
 pub starts : (n : ℕ) (s : List ℕ) (body : ℕ) → Counting n s body body 0 0
-starts n s body = record { same = ap (then (operations n 4096 2 (drop body s))) (λ i ops. accepted (added-none ops i)); enough = omega arith; few = omega arith }
+starts n s body = record { same = ap (then (operations n most-operations 2 (drop body s))) (λ i ops. accepted (added-none ops i)); enough = omega arith; few = omega arith }
 
 pub passes-small : {s : List ℕ} {at n line next m : ℕ} → Passes s at n line next m → m ≤ 1
 passes-small w = omega (arith, w .measured-is, measures-one (w .op))
 
 module _ (n : ℕ) (s : List ℕ) (body at count measured : ℕ) (k : Counting n s body at count measured) where
-  room : count < 4096 → 4096 - count ≡ suc (4096 - (count + 1))
+  room : count < most-operations → most-operations - count ≡ suc (most-operations - (count + 1))
   room h = omega arith
 
   -- one line is left to be read
   reads-on :
-      (r : Found Op) → at < length s → count < 4096 → op-line (drop at s) ≡ r
-      → then (after-line n (4096 - (count + 1)) (count + 2) r) (λ ops. accepted (added count measured ops)) ≡ then (operations n 4096 2 (drop body s)) (λ ops. accepted (counts ops))
+      (r : Found Op) → at < length s → count < most-operations → op-line (drop at s) ≡ r
+      → then (after-line n (most-operations - (count + 1)) (count + 2) r) (λ ops. accepted (added count measured ops)) ≡ then (operations n most-operations 2 (drop body s)) (λ ops. accepted (counts ops))
   reads-on r h f e =
       ap (λ (v : Verdict (List Op)). then v (λ ops. accepted (added count measured ops)))
-      (sym (operations-suc n (4096 - (count + 1)) (count + 2) (drop at s) r (ends-not s at h) e))
+      (sym (operations-suc n (most-operations - (count + 1)) (count + 2) (drop at s) r (ends-not s at h) e))
       ∙ (rw (room f) at (k .same))
 
-  pub too-many : at < length s → count ≡ 4096 → refused 6 4098 ≡ then (operations n 4096 2 (drop body s)) (λ ops. accepted (counts ops))
+  pub too-many : at < length s → count ≡ most-operations → refused 6 (most-operations + 2) ≡ then (operations n most-operations 2 (drop body s)) (λ ops. accepted (counts ops))
   too-many h e =
-      sym (ap (λ (v : Verdict (List Op)). then v (λ ops. accepted (added 4096 measured ops))) (operations-zero n 4098 (drop at s) (ends-not s at h)))
+      sym (ap (λ (v : Verdict (List Op)). then v (λ ops. accepted (added most-operations measured ops))) (operations-zero n (most-operations + 2) (drop at s) (ends-not s at h)))
       ∙ (rw e at (k .same))
 
   pub refused-line :
-      (a p : ℕ) → at < length s → (count ≡ 4096 → ⊥) → line-verdict n (count + 2) (op-line (drop at s)) ≡ refused a p
-      → refused a p ≡ then (operations n 4096 2 (drop body s)) (λ ops. accepted (counts ops))
+      (a p : ℕ) → at < length s → (count ≡ most-operations → ⊥) → line-verdict n (count + 2) (op-line (drop at s)) ≡ refused a p
+      → refused a p ≡ then (operations n most-operations 2 (drop body s)) (λ ops. accepted (counts ops))
   refused-line a p h f e =
-      sym (ap (λ (v : Verdict (List Op)). then v (λ ops. accepted (added count measured ops))) (refused-after n (4096 - (count + 1)) (count + 2) a p (op-line (drop at s)) e))
+      sym (ap (λ (v : Verdict (List Op)). then v (λ ops. accepted (added count measured ops))) (refused-after n (most-operations - (count + 1)) (count + 2) a p (op-line (drop at s)) e))
       ∙ reads-on (op-line (drop at s)) h (omega (arith, k .enough)) refl
 
-  pub passed-line : (next m : ℕ) → at < length s → (count ≡ 4096 → ⊥) → Passes s at n (count + 2) next m → Counting n s body next (count + 1) (measured + m)
+  pub passed-line : (next m : ℕ) → at < length s → (count ≡ most-operations → ⊥) → Passes s at n (count + 2) next m → Counting n s body next (count + 1) (measured + m)
   passed-line next m h f w =
       let op = w .op in
-      let left = 4096 - (count + 1) in
+      let left = most-operations - (count + 1) in
       let line : count + 1 + 2 ≡ suc (count + 2) = omega arith in
       let later = operations n left (suc (count + 2)) (drop next s) in
       let one : _≡_ {A = List Op → Verdict Counts} (λ ops. accepted (added (count + 1) (measured + m) ops)) (λ ops. accepted (added count measured (op ∷ ops))) =
@@ -134,10 +135,10 @@ module _ (n : ℕ) (s : List ℕ) (body at count measured : ℕ) (k : Counting n
         few = omega (arith, k .few, measures-one op, w .measured-is);
       }
 
-  pub counted : length s ≤ at → accepted (record { operations = count; measured = measured }) ≡ then (operations n 4096 2 (drop body s)) (λ ops. accepted (counts ops))
+  pub counted : length s ≤ at → accepted (record { operations = count; measured = measured }) ≡ then (operations n most-operations 2 (drop body s)) (λ ops. accepted (counts ops))
   counted h =
       let p : count ≡ count + 0 = omega arith in
       let q : measured ≡ measured + 0 = omega arith in
       (λ i. accepted (record { operations = p i; measured = q i }))
-      ∙ ap (λ (v : Verdict (List Op)). then v (λ ops. accepted (added count measured ops))) (sym (operations-end n (4096 - count) (count + 2) (drop at s) (ends-past s at h)))
+      ∙ ap (λ (v : Verdict (List Op)). then v (λ ops. accepted (added count measured ops))) (sym (operations-end n (most-operations - count) (count + 2) (drop at s) (ends-past s at h)))
       ∙ k .same

@@ -7,6 +7,7 @@ use native.Mathlib.Omega.{arith}
 use borrow.Author.Tests.{le-leb, lt-leb, leb-true}
 use lib.Dec.{leb}
 use lib.ListN.{length, drop}
+use Rattle.limits.specs.Limits.{most-qubits, most-operations}
 use Rattle.answers.specs.Verdict.{Verdict, accepted, refused, then, unless}
 use Rattle.clifford.specs.declared.Op.{Op}
 use Rattle.clifford.specs.Run.{All-valid}
@@ -24,7 +25,7 @@ told n ops = accepted (record { qubits = n; ops = ops })
 meant : Found ℕ → Verdict Circuit
 meant r =
     elim r [
-      | found n rest ↦ unless (leb 1 n && leb n 64) 2 1 (then (operations n 4096 2 rest) (told n))
+      | found n rest ↦ unless (leb 1 n && leb n most-qubits) 2 1 (then (operations n most-operations 2 rest) (told n))
       | malformed ↦ refused 1 1
     ]
 
@@ -34,20 +35,20 @@ not-qubits s h = ap meant h
 
 pub meaning-read :
     (s rest : List ℕ) (n : ℕ)
-    → header s ≡ found n rest → 1 ≤ n → n ≤ 64 → meaning s ≡ then (operations n 4096 2 rest) (λ ops. accepted (record { qubits = n; ops = ops }))
+    → header s ≡ found n rest → 1 ≤ n → n ≤ most-qubits → meaning s ≡ then (operations n most-operations 2 rest) (λ ops. accepted (record { qubits = n; ops = ops }))
 unfolding meant
-meaning-read s rest n h l m = ap meant h ∙ rw (le-leb 1 n l, le-leb n 64 m)
+meaning-read s rest n h l m = ap meant h ∙ rw (le-leb 1 n l, le-leb n most-qubits m)
 
 module _ (s : List ℕ) (n body : ℕ) (h : Stands header s 0 n body) where
   pub none-of-them : n < 1 → meaning s ≡ refused 2 1
   unfolding meant
   none-of-them l = ap meant (h .reads) ∙ rw (lt-leb 1 n l)
 
-  pub too-many-of-them : 1 ≤ n → 64 < n → meaning s ≡ refused 2 1
+  pub too-many-of-them : 1 ≤ n → most-qubits < n → meaning s ≡ refused 2 1
   unfolding meant
-  too-many-of-them l m = ap meant (h .reads) ∙ rw (le-leb 1 n l, lt-leb n 64 m)
+  too-many-of-them l m = ap meant (h .reads) ∙ rw (le-leb 1 n l, lt-leb n most-qubits m)
 
-  meaning-lines : 1 ≤ n → n ≤ 64 → meaning s ≡ then (operations n 4096 2 (drop body s)) (told n)
+  meaning-lines : 1 ≤ n → n ≤ most-qubits → meaning s ≡ then (operations n most-operations 2 (drop body s)) (told n)
   meaning-lines l m = meaning-read s (drop body s) n (h .reads) l m
 
   refused-lines : (v : Verdict (List Op)) (a p : ℕ) → refused a p ≡ then v (λ ops. accepted (counts ops)) → then v (told n) ≡ refused a p
@@ -58,15 +59,15 @@ module _ (s : List ℕ) (n body : ℕ) (h : Stands header s 0 n body) where
       λ i. refused (x i) (y i)
 
   pub lines-refused :
-      (a p : ℕ) → 1 ≤ n → n ≤ 64 → refused a p ≡ then (operations n 4096 2 (drop body s)) (λ ops. accepted (counts ops)) → meaning s ≡ refused a p
-  lines-refused a p l m e = meaning-lines l m ∙ refused-lines (operations n 4096 2 (drop body s)) a p e
+      (a p : ℕ) → 1 ≤ n → n ≤ most-qubits → refused a p ≡ then (operations n most-operations 2 (drop body s)) (λ ops. accepted (counts ops)) → meaning s ≡ refused a p
+  lines-refused a p l m e = meaning-lines l m ∙ refused-lines (operations n most-operations 2 (drop body s)) a p e
 
   pub lines-counted :
-      (count measured : ℕ) → 1 ≤ n → n ≤ 64
-      → accepted (record { operations = count; measured = measured }) ≡ then (operations n 4096 2 (drop body s)) (λ ops. accepted (counts ops))
+      (count measured : ℕ) → 1 ≤ n → n ≤ most-qubits
+      → accepted (record { operations = count; measured = measured }) ≡ then (operations n most-operations 2 (drop body s)) (λ ops. accepted (counts ops))
       → Accepts s n count measured body
   lines-counted count measured l m e =
-      let w = then-accepted (operations n 4096 2 (drop body s)) (λ ops. accepted (counts ops)) (record { operations = count; measured = measured }) (sym e) in
+      let w = then-accepted (operations n most-operations 2 (drop body s)) (λ ops. accepted (counts ops)) (record { operations = count; measured = measured }) (sym e) in
       let q : _≡_ {A = Verdict Counts} (accepted (counts (w .value))) (accepted (record { operations = count; measured = measured })) = w .later in
       let r : counts (w .value) ≡ record { operations = count; measured = measured } = cc in
       record {
@@ -85,30 +86,30 @@ pub record Parts (s : List ℕ) (c : Circuit) : Type 0 where
   pub rest : List ℕ
   pub header-is : header s ≡ found (c .qubits) rest
   pub some-qubits : 1 ≤ c .qubits
-  pub few-qubits : c .qubits ≤ 64
-  pub lines : operations (c .qubits) 4096 2 rest ≡ accepted (c .ops)
-  pub few-operations : length (c .ops) ≤ 4096
+  pub few-qubits : c .qubits ≤ most-qubits
+  pub lines : operations (c .qubits) most-operations 2 rest ≡ accepted (c .ops)
+  pub few-operations : length (c .ops) ≤ most-operations
   pub valid : All-valid (c .qubits) (c .ops)
 
 read-parts : (s : List ℕ) (c : Circuit) (r : Found ℕ) → header s ≡ r → meaning s ≡ accepted c → Parts s c
 unfolding meant
 read-parts s c (found n rest) e a =
-    let v : Verdict Circuit = then (operations n 4096 2 rest) (told n) in
-    let q : unless (leb 1 n && leb n 64) 2 1 v ≡ accepted c = sym (ap meant e) ∙ a in
-    let b = unless-true (leb 1 n && leb n 64) 2 1 v c q in
-    let w = then-accepted (operations n 4096 2 rest) (told n) c (unless-passed (leb 1 n && leb n 64) 2 1 v c q) in
+    let v : Verdict Circuit = then (operations n most-operations 2 rest) (told n) in
+    let q : unless (leb 1 n && leb n most-qubits) 2 1 v ≡ accepted c = sym (ap meant e) ∙ a in
+    let b = unless-true (leb 1 n && leb n most-qubits) 2 1 v c q in
+    let w = then-accepted (operations n most-operations 2 rest) (told n) c (unless-passed (leb 1 n && leb n most-qubits) 2 1 v c q) in
     let k : _≡_ {A = Circuit} (record { qubits = n; ops = w .value }) c = (let z = w .later in cc) in
     let m : n ≡ c .qubits = ap (λ (d : Circuit). d .qubits) k in
     let o : w .value ≡ c .ops = ap (λ (d : Circuit). d .ops) k in
-    let lines : operations (c .qubits) 4096 2 rest ≡ accepted (c .ops) = ap (λ (j : ℕ). operations j 4096 2 rest) (sym m) ∙ w .first ∙ ap accepted o in
+    let lines : operations (c .qubits) most-operations 2 rest ≡ accepted (c .ops) = ap (λ (j : ℕ). operations j most-operations 2 rest) (sym m) ∙ w .first ∙ ap accepted o in
     record {
       rest = rest;
       header-is = e ∙ ap (λ (j : ℕ). found j rest) m;
-      some-qubits = omega (arith, m, leb-true 1 n (and-left (leb 1 n) (leb n 64) b));
-      few-qubits = omega (arith, m, leb-true n 64 (and-right (leb 1 n) (leb n 64) b));
+      some-qubits = omega (arith, m, leb-true 1 n (and-left (leb 1 n) (leb n most-qubits) b));
+      few-qubits = omega (arith, m, leb-true n most-qubits (and-right (leb 1 n) (leb n most-qubits) b));
       lines = lines;
-      few-operations = within-room (c .qubits) 4096 2 rest (c .ops) lines;
-      valid = all-valid (c .qubits) 4096 2 rest (c .ops) lines;
+      few-operations = within-room (c .qubits) most-operations 2 rest (c .ops) lines;
+      valid = all-valid (c .qubits) most-operations 2 rest (c .ops) lines;
     }
 read-parts s c malformed e a =
     let q : _≡_ {A = Verdict Circuit} (refused 1 1) (accepted c) = sym (ap meant e) ∙ a in

@@ -2,7 +2,7 @@
 ghost use mathlib.Core.Path.{_≡_};
 ghost use Prim.Native.Nat.{_≤_};
 ghost use lib.ListN.{drop};
-ghost use Rattle.clifford.specs.Limits.{most-operations};
+ghost use Rattle.limits.specs.Limits.{most-qubits, most-operations};
 ghost use Rattle.answers.specs.Verdict.{accepted, then};
 ghost use Rattle.circuit.specs.Text.{operations};
 ghost use Rattle.checking.specs.parts.Promises.{counts, TurnAt, told-lines, Heads, Scans};
@@ -59,7 +59,7 @@ fn judged_at(s: &[u8], at: usize, n: usize, line: usize) -> Turn
 }
 
 fn turn_at(s: &[u8], at: usize, n: usize, line: usize) -> Turn
-    requires { ⌜ n ≤ 64 ⌝ }
+    requires { ⌜ n ≤ most-qubits ⌝ }
     ensures { λ r. ⌜ TurnAt (now (s .entry)) at n line r ⌝ }
 {
     let found = quick_lines::usual::line_at(s, at, n);
@@ -73,14 +73,14 @@ fn turn_at(s: &[u8], at: usize, n: usize, line: usize) -> Turn
 }
 
 fn scan_lines(s: &[u8], body: usize, n: usize) -> Counted
-    requires { ⌜ n ≤ 64 ⌝ }
+    requires { ⌜ n ≤ most-qubits ⌝ }
     ensures { λ r. ⌜ told-lines r ≡ then (operations n most-operations 2 (drop body (now (s .entry)))) (λ ops. accepted (counts ops)) ⌝ }
 {
     let mut at = body;
     let mut count: usize = 0;
     let mut measured: usize = 0;
     while at < s.len() {
-        if count == 4096 {
+        if count == limits::MOST_OPERATIONS {
             return Counted::Refused(Refusal::TooManyOperations);
         }
         match turn_at(s, at, n, count + 2) {
@@ -111,7 +111,7 @@ pub fn head(text: &[u8]) -> Heading
             if n < 1 {
                 return Heading::Refused(Refusal::QubitCount);
             }
-            if 64 < n {
+            if limits::MOST_QUBITS < n {
                 return Heading::Refused(Refusal::QubitCount);
             }
             Heading::Qubits(n, body)

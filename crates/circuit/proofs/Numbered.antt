@@ -6,7 +6,7 @@ use native.Mathlib.Omega.{arith}
 use lib.Dec.{leb}
 use Rattle.answers.specs.Verdict.{accepted, refused, then, unless}
 use Rattle.answers.proofs.Numbered.{Refused-by, by-then, by-unless}
-use Rattle.clifford.specs.Limits.{most-operations, most-qubits}
+use Rattle.limits.specs.Limits.{most-operations, most-qubits}
 use Rattle.clifford.specs.declared.Op.{Op}
 use Rattle.circuit.specs.Lines.{Found, found, malformed, op-line}
 use Rattle.circuit.specs.Text.{Circuit, all-below, apart, checked, ends, operations, header, meaning}

@@ -8,7 +8,7 @@ use Rattle.answers.specs.Verdict.{Verdict, accepted, refused, then, unless}
 use Rattle.clifford.specs.declared.Gate.the-variants.{One as one, Two as two}
 use Rattle.clifford.specs.declared.Op.{Op}
 use Rattle.clifford.specs.declared.Op.the-variants.{Gate as apply, Measure as measure}
-use Rattle.clifford.specs.Limits.{most-qubits, most-operations}
+use Rattle.limits.specs.Limits.{most-qubits, most-operations}
 use Rattle.circuit.specs.Lines.{Found, found, malformed, then-read, strip, closed-by, end-byte, number, op-line}
 
 pub record Circuit : Type 0 where

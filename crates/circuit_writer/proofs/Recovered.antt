@@ -6,6 +6,7 @@ use mathlib.Core.Option.{Option, none, some}
 use mathlib.Core.Path.{_≡_, refl, sym, _∙_, ap}
 use Prim.Native.Nat.{ℕ, zero, suc, _<_}
 use native.Mathlib.Omega.{arith}
+use Rattle.limits.specs.Limits.{most-operations}
 use Rattle.answers.specs.Verdict.{accepted}
 use Rattle.clifford.specs.declared.One.the-variants.{H, S, PauliX, PauliY, PauliZ}
 use Rattle.clifford.specs.declared.Two.the-variants.{Cx, Cz}
@@ -201,7 +202,7 @@ pub text-recovered : (s : List ℕ) (c : Circuit) → meaning s ≡ accepted c �
 text-recovered s c a =
     let w = parts s c a in
     header-read s (c .qubits) (w .rest) (w .header-is)
-    ∙ ap (λ (l : List ℕ). header-text (c .qubits) ++ l) (lines-read (c .qubits) 4096 2 (w .rest) (c .ops) (w .lines))
+    ∙ ap (λ (l : List ℕ). header-text (c .qubits) ++ l) (lines-read (c .qubits) most-operations 2 (w .rest) (c .ops) (w .lines))
 
 -- two texts of one meaning are one text
 pub one-text : (s t : List ℕ) (c : Circuit) → meaning s ≡ accepted c → meaning t ≡ accepted c → s ≡ t

@@ -7,6 +7,7 @@ use native.Mathlib.Omega.{arith}
 use borrow.Author.Tests.{ltb-true, ltb-false, eqb-true, eqb-false, lt-ltb, ne-eqb}
 use lib.Dec.{eqb, ltb}
 use lib.ListN.{length}
+use Rattle.limits.specs.Limits.{most-qubits, most-operations}
 use Rattle.answers.specs.Verdict.{accepted}
 use Rattle.clifford.specs.declared.One.{One}
 use Rattle.clifford.specs.declared.One.the-variants.{H, S, PauliX, PauliY, PauliZ}
@@ -145,8 +146,8 @@ lines-written n k (suc room) line (op ∷ ops) v h =
 pub header-written : (n : ℕ) (rest : List ℕ) → n < 1000 → header (header-text n ++ rest) ≡ found n rest
 header-written n rest h = ap (λ (t : List ℕ). header (81 ∷ t)) (one-shape n rest) ∙ rw (number-written 10 rest refl n h)
 
--- for n from 1 to 64 and at most 4096 valid operations
-pub text-means : (c : Circuit) → 1 ≤ c .qubits → c .qubits ≤ 64 → All-valid (c .qubits) (c .ops) → length (c .ops) ≤ 4096 → meaning (circuit-text c) ≡ accepted c
+-- for n from 1 to the limit, and at most as many valid operations as there may be
+pub text-means : (c : Circuit) → 1 ≤ c .qubits → c .qubits ≤ most-qubits → All-valid (c .qubits) (c .ops) → length (c .ops) ≤ most-operations → meaning (circuit-text c) ≡ accepted c
 text-means c l m v h =
     meaning-read (circuit-text c) (lines-text (c .ops)) (c .qubits) (header-written (c .qubits) (lines-text (c .ops)) (omega arith)) l m
-    ∙ rw (lines-written (c .qubits) (omega arith) 4096 2 (c .ops) v h)
+    ∙ rw (lines-written (c .qubits) (omega arith) most-operations 2 (c .ops) v h)

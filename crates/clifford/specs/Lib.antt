@@ -1,4 +1,3 @@
-pub mod Limits
 pub mod Gates
 pub mod Tableau
 pub mod Measurement

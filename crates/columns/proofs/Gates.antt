@@ -1,87 +1,85 @@
--- What new words for the qubits of a gate do to every row of a group. Assumes nothing.
+-- A gate on the sign and the letters of each row is the gate on the tableau, and sets nothing from row n or qubit n on. Assumes nothing.
 use mathlib.Core.Path.{_≡_, refl, sym, ap, ap₂, _∙_}
-use mathlib.Core.Bool.{Bool, true, false, cond}
+use mathlib.Core.Bool.{Bool, false, cond}
 use mathlib.Core.List.{List}
-use mathlib.Core.Logic.{_≢_}
-use Prim.Native.Nat.{ℕ, _≤_, _<_}
+use Prim.Native.Nat.{ℕ, _+_, _≤_, _<_}
 use native.Mathlib.Omega.{arith}
 use lib.Dec.{eqb}
-use borrow.Author.Tests.{eqb-true, eqb-false}
-use lib.ListN.{getD, set, length-set}
-use Rattle.words.specs.Bit.{bit}
-use Rattle.pauli.specs.Letters.{Letter, letter, _⊕_}
+use borrow.Author.Tests.{ne-eqb}
+use Rattle.limits.specs.Limits.{most-qubits}
+use Rattle.pauli.specs.Letters.{Letter, I, _⊕_}
 use Rattle.pauli.specs.Rows.{Letters}
 use Rattle.clifford.specs.declared.One.{One}
-use Rattle.clifford.specs.declared.Two.{Two}
+use Rattle.clifford.specs.declared.One.the-variants.{H, S, PauliX, PauliY, PauliZ}
+use Rattle.clifford.specs.declared.Two.the-variants.{Cx, Cz}
+use Rattle.clifford.specs.declared.Gate.{Gate}
 use Rattle.clifford.specs.declared.Gate.the-variants.{One as one, Two as two}
-use Rattle.clifford.specs.Gates.{turns₁, new₁, turns₂, newA, newB, gate}
-use Rattle.packing.specs.View.{Words, letter-at, row-at}
+use Rattle.clifford.specs.Gates.{turns₁, new₁, turns₂, newA, newB, turns, new, gate, Fits}
+use Rattle.clifford.specs.Tableau.{blank}
+use Rattle.packing.specs.View.{row-count, sign-words, Words, bit-at, letter-at, row-at, rows-from}
 use Rattle.columns.specs.parts.Gated.{Gated}
-use Rattle.columns.proofs.Views.{row-eq, guard, guard-in, guard-out, guarded}
-use Rattle.columns.proofs.Stores.{put, put-words, put-letter, put-letters, sign-set, sign-letters}
+use Rattle.packing.proofs.Views.{cond-same, row-eq, guard, guard-in, guard-out, guarded, rows-in, rows-out, all-rows}
 
--- new letters at a, and elsewhere the old ones
-pub at-one : (n : ℕ) (f g : Letters) (a : ℕ) (l : Letter) → a < n → f a ≡ l → ((k : ℕ) → k < n → k ≢ a → f k ≡ g k)
-    → (j : ℕ) → guard n f j ≡ cond (eqb j a) l (guard n g j)
-at-one n f g a l la e o j = go (eqb j a) refl
-  where
-    go : (b : Bool) → eqb j a ≡ b → guard n f j ≡ cond b l (guard n g j)
-    go true q = ap (guard n f) (eqb-true j a q) ∙ guard-in n f a la ∙ e
-    go false q = guarded n f j (guard n g j) (λ h. o j h (eqb-false j a q) ∙ sym (guard-in n g j h)) (λ h. guard-out n g j h)
+-- no gate changes a row of I with a plus
+turns-none : (g : One) → turns₁ g I ≡ false
+turns-none H = refl
+turns-none S = refl
+turns-none PauliX = refl
+turns-none PauliY = refl
+turns-none PauliZ = refl
 
-module _ (g : One) (w : List ℕ) (lw : Words w) (a : ℕ) (la : a < 64) (u v s : ℕ)
-    (letters : (i : ℕ) → letter (bit i u) (bit i v) ≡ new₁ g (letter-at w i a))
-    (signs : (i : ℕ) → bit i s ≡ bit i (getD w 128 0) ⊕ turns₁ g (letter-at w i a)) where
-  pub gate-one : Gated (one g a) w (set (put w a u v) 128 s)
+new-none : (g : One) → new₁ g I ≡ I
+new-none H = refl
+new-none S = refl
+new-none PauliX = refl
+new-none PauliY = refl
+new-none PauliZ = refl
+
+pub gate-blank : (g : Gate) → gate g blank ≡ blank
+gate-blank (one g a) = row-eq _ _ (turns-none g) (λ j. ap (λ (l : Letter). cond (eqb j a) l I) (new-none g) ∙ cond-same (eqb j a) I)
+gate-blank (two Cx a b) = row-eq _ _ refl (λ j. ap (cond (eqb j a) I) (cond-same (eqb j b) I) ∙ cond-same (eqb j a) I)
+gate-blank (two Cz a b) = row-eq _ _ refl (λ j. ap (cond (eqb j a) I) (cond-same (eqb j b) I) ∙ cond-same (eqb j a) I)
+
+pub fits-more : (g : Gate) (n m : ℕ) → n ≤ m → Fits n g → Fits m g
+fits-more (one g a) n m h f = omega arith
+fits-more (two g a b) n m h f = (omega arith, omega arith, f .2)
+
+-- a gate reads and writes the first n letters alone
+turns-guard : (g : Gate) (n : ℕ) (f : Letters) → Fits n g → turns g f ≡ turns g (guard n f)
+turns-guard (one g a) n f h = ap (turns₁ g) (sym (guard-in n f a h))
+turns-guard (two g a b) n f h = ap₂ (turns₂ g) (sym (guard-in n f a (h .0))) (sym (guard-in n f b (h .1)))
+
+new-in : (g : Gate) (n : ℕ) (f : Letters) → Fits n g → (j : ℕ) → j < n → new g (guard n f) j ≡ new g f j
+new-in (one g a) n f h j l = λ i. cond (eqb j a) (new₁ g (guard-in n f a h i)) (guard-in n f j l i)
+new-in (two g a b) n f h j l = λ i. cond (eqb j a) (newA g (guard-in n f a (h .0) i) (guard-in n f b (h .1) i))
+    (cond (eqb j b) (newB g (guard-in n f a (h .0) i) (guard-in n f b (h .1) i)) (guard-in n f j l i))
+
+new-away : (g : Gate) (n : ℕ) (f : Letters) → Fits n g → (j : ℕ) → n ≤ j → new g f j ≡ f j
+new-away (one g a) n f h j l = rw (ne-eqb j a (λ e. omega arith))
+new-away (two g a b) n f h j l = rw (ne-eqb j a (λ e. omega (arith, h .0)), ne-eqb j b (λ e. omega (arith, h .1)))
+
+module _ (g : Gate) (w w′ : List ℕ) (lw : Words w′)
+    (signs : (s : ℕ) → s < row-count → bit-at w′ sign-words s ≡ bit-at w sign-words s ⊕ turns g (letter-at w s))
+    (letters : (s j : ℕ) → s < row-count → j < most-qubits → letter-at w′ s j ≡ new g (letter-at w s) j) where
+  row : (n s : ℕ) → n ≤ most-qubits → Fits n g → s < row-count → row-at n w′ s ≡ gate g (row-at n w s)
   unfolding row-at
-  gate-one = record { words = simp length-set lw; row = rows }
-    where
-      lp : Words (put w a u v)
-      lp = put-words w lw a la u v
+  row n s h f l =
+      row-eq _ _ (signs s l ∙ ap (λ (b : Bool). bit-at w sign-words s ⊕ b) (turns-guard g n (letter-at w s) f))
+      (λ j. guarded n (letter-at w′ s) j _ (λ b. letters s j l (omega arith) ∙ sym (new-in g n (letter-at w s) f j b))
+      (λ b. new-away g n (guard n (letter-at w s)) f j b ∙ guard-out n (letter-at w s) j b))
 
-      rows : (n i : ℕ) → n ≤ 64 → a < n → row-at n (set (put w a u v) 128 s) i ≡ gate (one g a) (row-at n w i)
-      rows n i n64 an =
-          let q : letter-at w i a ≡ guard n (letter-at w i) a = sym (guard-in n (letter-at w i) a an) in
-          row-eq _ _ (ap (bit i) (sign-set (put w a u v) lp s) ∙ signs i ∙ ap (λ (l : Letter). bit i (getD w 128 0) ⊕ turns₁ g l) q)
-          (at-one n (letter-at (set (put w a u v) 128 s) i) (letter-at w i) a _ an
-          (sign-letters (put w a u v) lp s i a la ∙ put-letter w lw a la u v i ∙ letters i ∙ ap (new₁ g) q)
-          (λ k kn d. sign-letters (put w a u v) lp s i k (omega arith) ∙ put-letters w lw a la u v i k (omega arith) d))
+  rows : (n o i : ℕ) → n ≤ most-qubits → o ≤ most-qubits → Fits n g → rows-from n o w′ i ≡ gate g (rows-from n o w i)
+  rows n o i h ho f =
+      all-rows n o w′ (λ k. gate g (rows-from n o w k)) (λ k l. row n (o + k) h f (omega arith) ∙ ap (gate g) (sym (rows-in n o w k l)))
+      (λ k l. ap (gate g) (rows-out n o w k l) ∙ gate-blank g) i
 
--- the same at two qubits
-at-two : (n : ℕ) (f g : Letters) (a b : ℕ) (l m : Letter) → a < n → b < n → f a ≡ l → f b ≡ m → ((k : ℕ) → k < n → k ≢ a → k ≢ b → f k ≡ g k)
-    → (j : ℕ) → guard n f j ≡ cond (eqb j a) l (cond (eqb j b) m (guard n g j))
-at-two n f g a b l m la lb ea eb o j = go (eqb j a) refl (eqb j b) refl
-  where
-    go : (p : Bool) → eqb j a ≡ p → (q : Bool) → eqb j b ≡ q → guard n f j ≡ cond p l (cond q m (guard n g j))
-    go true p q r = ap (guard n f) (eqb-true j a p) ∙ guard-in n f a la ∙ ea
-    go false p true r = ap (guard n f) (eqb-true j b r) ∙ guard-in n f b lb ∙ eb
-    go false p false r =
-        guarded n f j (guard n g j) (λ h. o j h (eqb-false j a p) (eqb-false j b r) ∙ sym (guard-in n g j h)) (λ h. guard-out n g j h)
-
-module _ (g : Two) (w : List ℕ) (lw : Words w) (a b : ℕ) (la : a < 64) (lb : b < 64) (d : a ≢ b) (u v u′ v′ s : ℕ)
-    (lettersA : (i : ℕ) → letter (bit i u) (bit i v) ≡ newA g (letter-at w i a) (letter-at w i b))
-    (lettersB : (i : ℕ) → letter (bit i u′) (bit i v′) ≡ newB g (letter-at w i a) (letter-at w i b))
-    (signs : (i : ℕ) → bit i s ≡ bit i (getD w 128 0) ⊕ turns₂ g (letter-at w i a) (letter-at w i b)) where
-  pub gate-two : Gated (two g a b) w (set (put (put w a u v) b u′ v′) 128 s)
-  unfolding row-at
-  gate-two = record { words = simp length-set lw; row = rows }
-    where
-      lp : Words (put w a u v)
-      lp = put-words w lw a la u v
-
-      r : List ℕ
-      r = put (put w a u v) b u′ v′
-
-      lr : Words r
-      lr = put-words (put w a u v) lp b lb u′ v′
-
-      rows : (n i : ℕ) → n ≤ 64 → (a < n) × (b < n) × (a ≢ b) → row-at n (set r 128 s) i ≡ gate (two g a b) (row-at n w i)
-      rows n i n64 (an, bn, ab) =
-          let p : letter-at w i a ≡ guard n (letter-at w i) a = sym (guard-in n (letter-at w i) a an) in
-          let q : letter-at w i b ≡ guard n (letter-at w i) b = sym (guard-in n (letter-at w i) b bn) in
-          row-eq _ _
-          (ap (bit i) (sign-set r lr s) ∙ signs i ∙ ap₂ (λ (l m : Letter). bit i (getD w 128 0) ⊕ turns₂ g l m) p q)
-          (at-two n (letter-at (set r 128 s) i) (letter-at w i) a b _ _ an bn
-          (sign-letters r lr s i a la ∙ put-letters (put w a u v) lp b lb u′ v′ i a la d ∙ put-letter w lw a la u v i ∙ lettersA i ∙ ap₂ (newA g) p q)
-          (sign-letters r lr s i b lb ∙ put-letter (put w a u v) lp b lb u′ v′ i ∙ lettersB i ∙ ap₂ (newB g) p q)
-          (λ k kn da db. sign-letters r lr s i k (omega arith) ∙ put-letters (put w a u v) lp b lb u′ v′ i k (omega arith) db ∙ put-letters w lw a la u v i k (omega arith) da))
+  pub gated-by : Gated g w w′
+  gated-by = record {
+    words = lw;
+    rows = λ n h f. λ k. record { destabilizer = λ i. rows n 0 i h (omega arith) f k; stabilizer = λ i. rows n most-qubits i h (omega arith) f k };
+    holds = λ n h f a. record {
+      words = lw;
+      rows = λ s l b. row n s h f l ∙ ap (gate g) (a .rows s l b) ∙ gate-blank g;
+      letters = λ s j l b c. letters s j l c ∙ new-away g n (letter-at w s) f j b ∙ a .letters s j l b c;
+    };
+  }

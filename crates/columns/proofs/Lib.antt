@@ -1,5 +1,4 @@
-pub mod Views
-pub mod Stores
 pub mod Gates
-pub mod Seven
-pub mod Lowest
+pub mod Steps
+pub mod Pairs
+pub mod Letters

@@ -1,2 +1,2 @@
-pub mod LowestRow
 pub mod Gated
+pub mod Picked

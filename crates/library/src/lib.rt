@@ -7,12 +7,12 @@ ghost use Rattle.archive.specs.Copy.{copy-of};
 ghost use Rattle.archive.specs.Same.{same-of, told-same};
 ghost use Rattle.checking.specs.Check.{check-of, told-check};
 ghost use Rattle.product.specs.Product.{product-of};
-ghost use Rattle.reading.specs.Answer.{Hands, Reads};
+ghost use Rattle.reading.specs.Answer.{Hands};
 ghost use Rattle.run.specs.Run.{Runs};
 use answers::Written;
 use archive::Same;
 use checking::Checked;
-use reading::Contents;
+use packing::Words;
 
 // n and the number of operations of a circuit text, or one of the refusals 1 to 6 with its line.
 pub fn check(circuit: &[u8]) -> Checked
@@ -29,24 +29,12 @@ pub fn run<'c>(circuit: &[u8], coins: &'c [u8], sheet: &mut [u8], answer: &mut [
     run::run(circuit, coins, sheet, answer)
 }
 
-// Reads the last record of the lent bytes: hands out that part of them that holds the outcomes, and the rows in two groups of packed words. The answer: number,
+// Reads the last record of the lent bytes: hands out that part of them that holds the outcomes, and the rows as packed words. The answer: number,
 // place, the record's length, n. When refused, an empty part and the start rows of n = 1.
-pub fn read<'b>(
-    bytes: &'b [u8],
-    destabilizers: &mut [u64; 129],
-    stabilizers: &mut [u64; 129],
-    answer: &mut [u64; 4],
-) -> &'b [u8]
-    ensures { λ r. ⌜ Hands (now (bytes .entry)) (now r) (now (destabilizers .exit)) (now (stabilizers .exit)) (now (answer .exit)) ⌝ }
+pub fn read<'b>(bytes: &'b [u8], words: &mut Words, answer: &mut [u64; 4]) -> &'b [u8]
+    ensures { λ r. ⌜ Hands (now (bytes .entry)) (now r) (now (words .exit)) (now (answer .exit)) ⌝ }
 {
-    reading::read_record(bytes, destabilizers, stabilizers, answer)
-}
-
-// The same as a whole tableau by value, with the places of the outcomes.
-pub fn read_sheet(bytes: &[u8]) -> Contents
-    ensures { λ r. ⌜ Reads (now (bytes .entry)) r ⌝ }
-{
-    reading::read(bytes)
+    reading::read_record(bytes, words, answer)
 }
 
 // Copies the last record out: reads it, then writes it from what was read.

@@ -2,8 +2,7 @@
 use mathlib.Core.Path.{_≡_, refl, sym, ap, ap₂, _∙_}
 use mathlib.Core.Bool.{Bool, true, false, _&&_}
 use mathlib.Core.List.{[], _∷_}
-use Prim.Native.Nat.{ℕ, zero, suc, _*_, _/_, _%_, _^_, _<_}
-use Prim.Native.Nat.{_+_}
+use Prim.Native.Nat.{ℕ, zero, suc, _*_, _/_, _%_, _^_, _<_, _+_}
 use native.Mathlib.Nat.{mod-lt, zero-lt-suc, pow-suc, add-suc, add-zero, mul-zero, mul-add}
 use native.Mathlib.Omega.{arith}
 use lib.Count.{ones, ones-step}

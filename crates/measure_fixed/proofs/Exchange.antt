@@ -11,7 +11,7 @@ use Rattle.pauli.proofs.Sums.{sum-cong, sum-plus, sum-zero}
 use Rattle.pauli.proofs.LetterLaws.{power-adds, add-assoc}
 use Rattle.clifford.specs.Tableau.{Rows}
 use Rattle.clifford.specs.Measurement.{has-x, gathered}
-use Rattle.measure_fixed.specs.parts.Column.{three}
+use Rattle.measure_fixed.specs.parts.Column.{three, by-row, by-column, summed}
 
 -- ---- one more row, taken or not
 
@@ -54,15 +54,9 @@ regroup r c s t y d e = rw (left-side r c s t, e) (sym (right-side r s y d))
 -- ---- all rows: X j r and Z j r are the bits of row r on qubit j if it is taken, and S r its sign
 
 module _ (X Z : ℕ → ℕ → Bool) (S : ℕ → Bool) (n : ℕ) where
-  abbrev pub by-row : ℕ → Power
-  by-row r = sign (S r) ⊞ sum-powers (λ j. three (X j r && Z j r)) n
-
-  abbrev pub by-column : ℕ → ℕ → Power
-  by-column k j = sign (odd-number (λ r. odd-number (Z j) (suc r) && X j r) k) ⊞ three (odd-number (X j) k && odd-number (Z j) k)
-
   record Joined (p : Phased) (k : ℕ) : Type 0 where
     all : (j : ℕ) → j < n → p .letters j ≡ letter (odd-number (X j) k) (odd-number (Z j) k)
-    whole : p .phase ≡ sum-powers by-row k ⊞ sum-powers (by-column k) n
+    whole : p .phase ≡ (sum-powers (by-row X Z S n) k ⊞ sum-powers (by-column X Z k) n)
 
   module _ (a m : ℕ) (t : Rows)
       (signs : (r : ℕ) → r < m → (has-x a (t .destabilizer r) && t .stabilizer r .minus) ≡ S r)
@@ -76,13 +70,13 @@ module _ (X Z : ℕ → ℕ → Bool) (S : ℕ → Bool) (n : ℕ) where
         let y = sum-powers (λ j. three (X j k && Z j k)) n in
         let e : sum-powers (λ j. power (g .letters j) (cond b (q .letters j) I)) n ≡ w
         = sum-cong power-adds _ _ n (λ j l. ap₂ power (i .all j l) (bits k j h l)) in
-        let f : sum-powers (by-column k) n ⊞ w ≡ y ⊞ sum-powers (by-column (suc k)) n
+        let f : sum-powers (by-column X Z k) n ⊞ w ≡ y ⊞ sum-powers (by-column X Z (suc k)) n
         = sym (sum-plus power-adds _ _ n)
         ∙ sum-cong power-adds _ _ n (λ j l. more-power (odd-number (λ r. odd-number (Z j) (suc r) && X j r) k) (odd-number (X j) k) (odd-number (Z j) k) (X j k) (Z j k))
         ∙ sum-plus power-adds _ _ n in
         record {
           all = λ j l. step-letter b n g q j ∙ ap₂ _·_ (i .all j l) (bits k j h l) ∙ more-letter (odd-number (X j) k) (odd-number (Z j) k) (X j k) (Z j k);
-          whole = step-phase b n g q ∙ (λ u. i .whole u ⊞ (sign (signs k h u) ⊞ e u)) ∙ regroup (sum-powers by-row k) (sum-powers (by-column k) n) (sign (S k)) w y (sum-powers (by-column (suc k)) n) f;
+          whole = step-phase b n g q ∙ (λ u. i .whole u ⊞ (sign (signs k h u) ⊞ e u)) ∙ regroup (sum-powers (by-row X Z S n) k) (sum-powers (by-column X Z k) n) (sign (S k)) w y (sum-powers (by-column X Z (suc k)) n) f;
         }
 
     nothing : (n : ℕ) → i0 ≡ i0 ⊞ sum-powers (λ j. i0) n
@@ -92,5 +86,5 @@ module _ (X Z : ℕ → ℕ → Bool) (S : ℕ → Bool) (n : ℕ) where
     joined zero h = record { all = λ j l. refl; whole = nothing n }
     joined (suc k) h = more k (omega arith) (joined k (omega arith))
 
-    pub exchanged : gathered n a t m .phase ≡ sum-powers by-row m ⊞ sum-powers (by-column m) n
+    pub exchanged : gathered n a t m .phase ≡ summed X Z S m n
     exchanged = joined m (omega arith) .whole

@@ -1,6 +1,9 @@
 pub mod Exchange
-pub mod Shifts
 pub mod Counts
+pub mod Shifts
 pub mod Pass
-pub mod Tied
+pub mod InWords
+pub mod Passing
 pub mod Single
+pub mod Tied
+pub mod First

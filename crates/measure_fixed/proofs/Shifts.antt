@@ -1,21 +1,20 @@
 -- The bits of shifted words, and of a word that has the parities of another. Assumes nothing.
 use mathlib.Core.Path.{_≡_, sym, ap, _∙_}
-use mathlib.Core.Bool.{Bool, false, _&&_}
+use mathlib.Core.Bool.{Bool, false}
 use mathlib.Core.List.{[], _∷_}
 use Prim.Native.Nat.{ℕ, suc, _+_, _-_, _*_, _/_, _%_, _^_, _≤_, _<_}
 use native.Mathlib.Nat.{mul-assoc, mul-mod-left, pow-suc, div-eq-of-lt, lt-of-lt-of-le}
 use native.Mathlib.Decide.{decLt}
 use native.Mathlib.Numerals.{add-one}
 use native.Mathlib.Omega.{arith}
-use lib.Bits.{bitAnd, bitXor}
-use lib.Dec.{eqb, ltb}
-use lib.Pow.{pow-add, pow-mono, shl-shr, shr-shr, ones-lt, field, mod-mod-pow}
-use borrow.Author.Tests.{lt-ltb, le-ltb}
+use lib.Bits.{bitXor}
+use lib.Dec.{eqb}
+use lib.Pow.{pow-add, pow-mono, shl-shr, shr-shr, field, mod-mod-pow}
 use Rattle.pauli.specs.Letters.{_⊕_}
 use Rattle.pauli.specs.Rows.{odd-number}
 use Rattle.pauli.proofs.Cases as cases
 use Rattle.words.specs.Bit.{bit}
-use Rattle.words.proofs.BitLaws.{bit-xor, bit-and, bit-ones}
+use Rattle.words.proofs.BitLaws.{bit-xor}
 
 -- the cut to 64 bits keeps the bits below 64
 cut : (k n : ℕ) → k < 64 → bit k (n % 2 ^ 64) ≡ bit k n
@@ -58,14 +57,6 @@ shr-at k s w = ap (λ (m : ℕ). eqb (m % 2) 1) (shr-shr w s k)
 bit-over : (m k w : ℕ) → w < 2 ^ m → m ≤ k → bit k w ≡ false
 unfolding bit
 bit-over m k w hw l = ap (λ (n : ℕ). eqb (n % 2) 1) (div-eq-of-lt (lt-of-lt-of-le hw (pow-mono l)))
-
--- the word of the first n bits, as the code makes it
-pub first-bits : (n w k : ℕ) → n ≤ 64 → k < 64 → bit k (bitAnd ((2 ^ 64 - 1) / 2 ^ (64 - n)) w) ≡ (ltb k n && bit k w)
-first-bits n w k h l = bit-and k ((2 ^ 64 - 1) / 2 ^ (64 - n)) w ∙ ap (λ (b : Bool). b && bit k w) (shr-at k (64 - n) (2 ^ 64 - 1) ∙ go (decLt k n))
-  where
-    go : Dec (k < n) → bit ((64 - n) + k) (2 ^ 64 - 1) ≡ ltb k n
-    go (yes b) = bit-ones 64 ((64 - n) + k) (omega arith) ∙ sym (lt-ltb k n b)
-    go (no b) = bit-over 64 ((64 - n) + k) (2 ^ 64 - 1) (ones-lt 64) (omega arith) ∙ sym (le-ltb k n (omega arith))
 
 -- ---- parities
 

@@ -1,17 +1,15 @@
--- A fixed measurement of no factor or of one, which needs no pass over the columns: the sign is plus, or that row's own. A word whose lowest
--- set bit is at p, and which is 1 when shifted down by p, has no other bit. Assumes nothing.
+-- A product of no factor, or of one: its sign; and a word with one bit. Assumes nothing.
 use mathlib.Core.Path.{_≡_, refl, sym, ap, ap₂, _∙_}
-use mathlib.Core.Bool.{Bool, true, false, cond, _&&_}
-use mathlib.Core.List.{List, [], _∷_}
+use mathlib.Core.Bool.{Bool, false, cond}
+use mathlib.Core.List.{[], _∷_}
 use Prim.Native.Nat.{ℕ, zero, suc, _+_, _-_, _/_, _^_, _≤_, _<_}
 use native.Mathlib.Decide.{decLt}
 use native.Mathlib.Omega.{arith}
 use lib.Bits.{bitAnd, and-mask}
 use lib.Count.{trailingZeros}
-use lib.Dec.{eqb, ltb}
-use lib.ListN.{getD}
-use borrow.Author.Tests.{ltb-true, eq-eqb, ne-eqb}
-use Rattle.pauli.specs.Letters.{Power, i0, sign, _⊞_}
+use lib.Dec.{eqb}
+use borrow.Author.Tests.{eq-eqb, ne-eqb}
+use Rattle.pauli.specs.Letters.{Power, i0, sign, _⊞_ as _⊞_}
 use Rattle.pauli.specs.Rows.{Phased, product, phased, minus-sign}
 use Rattle.pauli.proofs.Cases as cases
 use Rattle.pauli.proofs.Sums.{sum-zero}
@@ -20,9 +18,7 @@ use Rattle.clifford.specs.Tableau.{Rows, blank}
 use Rattle.clifford.specs.Measurement.{has-x, gathered, fixed-value}
 use Rattle.words.specs.Bit.{bit}
 use Rattle.words.proofs.BitLaws.{bit-pow, trailing-below}
-use Rattle.packing.specs.View.{row-at, group-rows, rows-of}
 use Rattle.measure_fixed.proofs.Shifts.{shr-at}
-use Rattle.measure_fixed.proofs.Tied.{x-group}
 
 -- ---- rows: only that of place p is taken, if there is one
 
@@ -46,13 +42,13 @@ module _ (n a p : ℕ) (t : Rows) (only : (k : ℕ) → k < n → has-x a (t .de
           ap (λ (c : Bool). cond c (product n (gathered n a t k) (phased (t .stabilizer k))) (gathered n a t k)) (only k (omega arith) ∙ eq-eqb k p q)
           ∙ ap₂ (λ (g : Phased) (r : ℕ). product n g (phased (t .stabilizer r))) (none k (omega arith) (omega arith)) q
 
-  no-factor : n ≤ p → fixed-value n a t ≡ false
+  pub no-factor : n ≤ p → fixed-value n a t ≡ false
   no-factor l = ap (λ (g : Phased). minus-sign (g .phase)) (none n (omega arith) l)
 
   own : (b : Bool) → minus-sign (sign b ⊞ i0) ≡ b
   own = cases.tested (cases.bit ∷ []) cases.bit _ _ tt
 
-  one-factor : p < n → fixed-value n a t ≡ t .stabilizer p .minus
+  pub one-factor : p < n → fixed-value n a t ≡ t .stabilizer p .minus
   one-factor l =
       ap (λ (g : Phased). minus-sign (g .phase)) (one n (omega arith) l)
       ∙ ap (λ (q : Power). minus-sign (sign (t .stabilizer p .minus) ⊞ q)) (sum-zero power-adds n) ∙ own (t .stabilizer p .minus)
@@ -60,7 +56,7 @@ module _ (n a p : ℕ) (t : Rows) (only : (k : ℕ) → k < n → has-x a (t .de
 -- ---- words
 
 -- the only bit of a word that is 1 when shifted down by its trailing zeros
-lone : (w k : ℕ) → w / 2 ^ trailingZeros 64 w ≡ 1 → bit k w ≡ eqb k (trailingZeros 64 w)
+pub lone : (w k : ℕ) → w / 2 ^ trailingZeros 64 w ≡ 1 → bit k w ≡ eqb k (trailingZeros 64 w)
 lone w k e = go (decLt k (trailingZeros 64 w)) (decLt (trailingZeros 64 w) k)
   where
     above : trailingZeros 64 w ≤ k → bit k w ≡ eqb (k - trailingZeros 64 w) 0
@@ -74,26 +70,6 @@ lone w k e = go (decLt k (trailingZeros 64 w)) (decLt (trailingZeros 64 w) k)
     go (no m) (no l) = above (omega arith) ∙ eq-eqb (k - trailingZeros 64 w) 0 (omega arith) ∙ sym (eq-eqb k (trailingZeros 64 w) (omega arith))
 
 -- `(w >> p) & 1 == 1`
-bit-test : (p w : ℕ) → eqb (bitAnd (w / 2 ^ p) 1) 1 ≡ bit p w
+pub bit-test : (p w : ℕ) → eqb (bitAnd (w / 2 ^ p) 1) 1 ≡ bit p w
 unfolding bit
 bit-test p w = ap (λ (d : ℕ). eqb d 1) (and-mask (w / 2 ^ p) 1)
-
-left : (b c : Bool) → (b && c) ≡ true → b ≡ true
-left true c e = refl
-left false c e = e
-
-module _ (n a sel : ℕ) (d s : List ℕ) (n64 : n ≤ 64) (an : a < n) (e : (k : ℕ) → k < 64 → bit k sel ≡ (ltb k n && bit k (getD d a 0))) where
-  taken : (k : ℕ) → k < n → has-x a (group-rows n d k) ≡ bit k sel
-  taken k l = x-group n a d s an k ∙ sym (e k (omega arith))
-
-  pub fixed-none : trailingZeros 64 sel ≡ 64 → false ≡ fixed-value n a (rows-of n d s)
-  fixed-none h = sym (no-factor n a 64 (rows-of n d s) (λ k l. taken k l ∙ trailing-below 64 sel k (omega arith) ∙ sym (ne-eqb k 64 (λ q. omega arith))) n64)
-
-  pub fixed-one : trailingZeros 64 sel < 64 → sel / 2 ^ trailingZeros 64 sel ≡ 1
-      → eqb (bitAnd (getD s 128 0 / 2 ^ trailingZeros 64 sel) 1) 1 ≡ fixed-value n a (rows-of n d s)
-  unfolding group-rows row-at
-  fixed-one l h =
-      let p = trailingZeros 64 sel in
-      let b : ltb p n ≡ true = left (ltb p n) (bit p (getD d a 0)) (sym (e p l) ∙ lone sel p h ∙ eq-eqb p p refl) in
-      bit-test p (getD s 128 0) ∙ sym (one-factor n a p (rows-of n d s) (λ k i. taken k i ∙ lone sel k h) (ltb-true p n b)
-      ∙ ap (λ (c : Bool). (cond c (row-at n s p) blank) .minus) b)

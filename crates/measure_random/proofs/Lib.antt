@@ -1,4 +1,2 @@
-pub mod Bitwise
-pub mod Loop
 pub mod Settling
 pub mod Whole

@@ -1,37 +1,60 @@
--- The rows that groups of words hold: bit i of a word belongs to row i, and each qubit has a word of x bits and one of z bits. Assumes nothing.
-use mathlib.Core.Bool.{false, cond}
+-- The rows of a tableau in one list of words. Four words side by side have a bit for each of 256 rows: row s is bit s % 64 of word s / 64.
+-- Destabilizer i is row i of these, and stabilizer i is row 128 + i. The four words from 8 j on have the x bits of qubit j, those from 8 j + 4
+-- on its z bits, and the last four the signs. Assumes nothing.
+use mathlib.Core.Bool.{Bool, cond}
 use mathlib.Core.List.{List}
 use mathlib.Core.Path.{_≡_}
-use Prim.Native.Nat.{ℕ, _+_, _≤_, _<_}
+use Prim.Native.Nat.{ℕ, _+_, _*_, _/_, _%_, _≤_, _<_}
 use lib.Dec.{ltb}
 use lib.ListN.{length, getD}
+use Rattle.limits.specs.Limits.{most-qubits}
 use Rattle.pauli.specs.Letters.{Letter, I, letter}
 use Rattle.pauli.specs.Rows.{Row}
 use Rattle.clifford.specs.Tableau.{Rows, blank}
 use Rattle.words.specs.Bit.{bit}
 
--- a group of 64 rows of up to 64 letters: x of qubit j in word j, z in word 64 + j, the signs in word 128
+-- how many rows there are in all, where the signs stand, and how many words there are
+abbrev pub row-count : ℕ
+row-count = 2 * most-qubits
+
+abbrev pub sign-words : ℕ
+sign-words = 8 * most-qubits
+
+abbrev pub word-count : ℕ
+word-count = sign-words + 4
+
 abbrev pub Words : List ℕ → Type 0
-Words w = length w ≡ 129
+Words w = length w ≡ word-count
 
--- the letter of row i on qubit j
+-- the bit of row s in a group of words, of which f has the one of each number
+abbrev pub bit-in : (ℕ → ℕ) → ℕ → Bool
+bit-in f s = bit (s % 64) (f (s / 64))
+
+-- the group of words from o on
+abbrev pub group : List ℕ → ℕ → ℕ → ℕ
+group w o g = getD w (o + g) 0
+
+abbrev pub bit-at : List ℕ → ℕ → ℕ → Bool
+bit-at w o s = bit-in (group w o) s
+
+-- the letter of row s on qubit j
 abbrev pub letter-at : List ℕ → ℕ → ℕ → Letter
-letter-at w i j = letter (bit i (getD w j 0)) (bit i (getD w (64 + j) 0))
+letter-at w s j = letter (bit-at w (8 * j) s) (bit-at w (8 * j + 4) s)
 
--- row i of n letters
+-- row s of n letters
 unfoldable pub row-at : ℕ → List ℕ → ℕ → Row
-row-at n w i = record { minus = bit i (getD w 128 0); letters = λ j. cond (ltb j n) (letter-at w i j) I }
+row-at n w s = record { minus = bit-at w sign-words s; letters = λ j. cond (ltb j n) (letter-at w s j) I }
 
--- the first n rows of a group
-unfoldable pub group-rows : ℕ → List ℕ → ℕ → Row
-group-rows n w i = cond (ltb i n) (row-at n w i) blank
+-- n rows, the first of them row o
+unfoldable pub rows-from : ℕ → ℕ → List ℕ → ℕ → Row
+rows-from n o w i = cond (ltb i n) (row-at n w (o + i)) blank
 
--- the rows of a tableau of n qubits in two groups, the destabilizers and the stabilizers
-abbrev pub rows-of : ℕ → List ℕ → List ℕ → Rows
-rows-of n d s = record { destabilizer = group-rows n d; stabilizer = group-rows n s }
+-- the tableau of n qubits
+abbrev pub rows-of : ℕ → List ℕ → Rows
+rows-of n w = record { destabilizer = rows-from n 0 w; stabilizer = rows-from n most-qubits w }
 
--- a group of words in which nothing is set but in its first n rows of n letters
+-- nothing is set from row n or from qubit n on
 pub record Holds (n : ℕ) (w : List ℕ) : Type 0 where
   pub words : Words w
-  pub rows : (c i : ℕ) → n ≤ i → bit i (getD w c 0) ≡ false
-  pub letters : (j : ℕ) → n ≤ j → j < 64 → (getD w j 0 ≡ 0) × (getD w (64 + j) 0 ≡ 0)
+  pub rows : (s : ℕ) → s < row-count → n ≤ s % most-qubits → row-at n w s ≡ blank
+  pub letters : (s j : ℕ) → s < row-count → n ≤ j → j < most-qubits → letter-at w s j ≡ I

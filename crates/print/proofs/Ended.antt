@@ -6,13 +6,14 @@ use native.Mathlib.Omega.{arith}
 use borrow.Author.Tests.{le-leb}
 use lib.Dec.{leb}
 use lib.ListN.{length, getD, drop}
+use Rattle.limits.specs.Limits.{most-qubits}
 use Rattle.answers.specs.Verdict.{Verdict, accepted, refused, then, unless}
 use Rattle.clifford.specs.declared.Op.{Op}
 use Rattle.clifford.specs.Run.{State, run, begin}
 use Rattle.circuit.specs.Text.{Circuit, meaning, count-measured}
 use Rattle.checking.specs.parts.Promises.{Accepts}
 use Rattle.checking.proofs.Meant.{parts}
-use Rattle.records.specs.Record.{mark, rows-text, trailer, record-with, record-of, record-length}
+use Rattle.records.specs.Record.{longest-record, mark, rows-text, trailer, record-with, record-of, record-length}
 use Rattle.records.proofs.Lengths.{square-below}
 use Rattle.run.specs.Run.{Sheet, sheet, run-circuit, run-of, numbers, buffer-after, Runs}
 use Rattle.walking.specs.parts.Walk.{lines-of, or-none}
@@ -36,7 +37,7 @@ prints-refusal text coins number place sheet e = record {
 regroup : (m r t d : List ℕ) → m ++ r ++ t ++ d ≡ m ++ (r ++ (t ++ d))
 regroup m r t d = simp append-assoc
 
-module _ (text coins old : List ℕ) (n count measured body : ℕ) (a : Accepts text n count measured body) (room : 12428 ≤ length old) where
+module _ (text coins old : List ℕ) (n count measured body : ℕ) (a : Accepts text n count measured body) (room : longest-record ≤ length old) where
   abbrev ended : Verdict State
   ended = run (a .circuit .qubits) 2 (a .circuit .ops) (begin (a .circuit .qubits) coins)
 
@@ -45,7 +46,7 @@ module _ (text coins old : List ℕ) (n count measured body : ℕ) (a : Accepts 
   run-is v q =
       let w = may-size text n count measured body a in
       let fits : record-length (a .circuit .qubits) (count-measured (a .circuit .ops)) ≤ length old =
-      omega (arith, w, room, a .qubits-is, a .measured-is, square-below (a .circuit .qubits) (omega (arith, w, a .qubits-is))) in
+      omega (arith, w, room, a .qubits-is, a .measured-is, square-below (a .circuit .qubits) {m = most-qubits} (omega (arith, w, a .qubits-is))) in
       ap (λ (m : Verdict Circuit). then m (λ c. unless (leb (record-length (c .qubits) (count-measured (c .ops))) (length old)) 8 0 (run-circuit c coins))) (a .meant)
       ∙ ap (λ b. unless b 8 0 (run-circuit (a .circuit) coins)) (le-leb (record-length (a .circuit .qubits) (count-measured (a .circuit .ops))) (length old) fits)
       ∙ ap (λ (u : Verdict State). then u (λ e. accepted (sheet (a .circuit .qubits) coins e))) q

@@ -8,6 +8,7 @@ use native.Mathlib.Omega.{arith}
 use borrow.Author.Tests.{lt-ltb}
 use lib.Dec.{ltb}
 use lib.ListN.{length, length-append}
+use Rattle.limits.specs.Limits.{most-qubits, most-operations}
 use Rattle.answers.specs.Verdict.{Verdict, accepted, refused, then, within}
 use Rattle.answers.proofs.Numbered.{room-enough}
 use Rattle.pauli.specs.Rows.{Row}
@@ -38,11 +39,11 @@ digits-within (suc k) (suc j) v h = go (ltb v 10) (digits-within k j (v / 10) (o
     go true w = omega arith
     go false w = omega (arith, length-append (digits-of k (v / 10)) ((48 + v % 10) ∷ []))
 
-line-within : (n line a : ℕ) (o : Outcome) → n ≤ 64 → line < 4098 → a < n → length (outcome-line line a o) ≤ 17
+line-within : (n line a : ℕ) (o : Outcome) → n ≤ most-qubits → line < most-operations + 2 → a < n → length (outcome-line line a o) ≤ 18
 line-within n line a o h l v =
-    omega (arith, line-length line a o, digits-within 20 3 line (omega arith), digits-within 20 1 a (omega arith), kind-few (o .random))
+    omega (arith, line-length line a o, digits-within 20 3 line (omega arith), digits-within 20 2 a (omega arith), kind-few (o .random))
 
-lines-within : (n line : ℕ) (ops : List Op) (outcomes : List Outcome) → n ≤ 64 → All-valid n ops → line + length ops ≤ 4098 → length (outcome-lines line ops outcomes) ≤ 17 * length ops
+lines-within : (n line : ℕ) (ops : List Op) (outcomes : List Outcome) → n ≤ most-qubits → All-valid n ops → line + length ops ≤ most-operations + 2 → length (outcome-lines line ops outcomes) ≤ 18 * length ops
 lines-within n line [] outcomes h v l = omega arith
 lines-within n line (apply g ∷ ops) outcomes h v l = omega (arith, lines-within n (suc line) ops outcomes h (v .1) (omega arith))
 lines-within n line (measure f a ∷ ops) [] h v l = omega arith
@@ -52,7 +53,7 @@ lines-within n line (measure f a ∷ ops) (o ∷ outcomes) h v l =
 group-length : (n : ℕ) (f : ℕ → Row) → length (joined (listed (λ i. row-line n (f i)) n)) ≡ n * (n + 2)
 group-length n f = length-joined (λ i. row-line n (f i)) (n + 2) n (λ i. length-append (row-text n (f i)) (10 ∷ []) ∙ omega (arith, length-row-text n (f i)))
 
-rows-within : (n : ℕ) (t : Rows) → n ≤ 64 → length (row-lines n t) ≤ 8448
+rows-within : (n : ℕ) (t : Rows) → n ≤ most-qubits → length (row-lines n t) ≤ 2 * most-qubits * (most-qubits + 2)
 unfolding row-lines
 rows-within n t h =
     omega (
@@ -60,7 +61,7 @@ rows-within n t h =
       length-append (joined (listed (λ i. row-line n (t .destabilizer i)) n)) (joined (listed (λ i. row-line n (t .stabilizer i)) n)),
       group-length n (t .destabilizer),
       group-length n (t .stabilizer),
-      mul-le-mul {n₁ = n} {m₁ = n + 2} {n₂ = 64} {m₂ = 66} h (omega arith),
+      mul-le-mul {n₁ = n} {m₁ = n + 2} {n₂ = most-qubits} {m₂ = most-qubits + 2} h (omega arith),
     )
 
 refusal-within : (number place : ℕ) → length (refusal-line number place) ≤ 50

@@ -7,7 +7,7 @@ use native.Mathlib.Numerals.{add-one}
 use native.Mathlib.Omega.{arith}
 use lib.ListN.{length, getD, take, drop, length-append, length-drop}
 use lib.Seq.{take-all}
-use Rattle.clifford.specs.Limits.{most-operations}
+use Rattle.limits.specs.Limits.{most-operations}
 use Rattle.answers.specs.Verdict.{accepted}
 use Rattle.clifford.specs.declared.Op.{Op}
 use Rattle.clifford.specs.declared.Op.the-variants.{Gate as apply, Measure as measure}
@@ -61,8 +61,8 @@ pub record Printing (text : List ℕ) (body n : ℕ) (sheet old out : List ℕ) 
   pub stored : Stores done old 0 out next
   pub so-far : outcome-lines 2 (lines-of n body text) (map outcome-told sheet) ≡ done ++ outcome-lines line ops (map outcome-told (drop k sheet))
   pub count : k + count-measured ops ≡ count-measured (lines-of n body text)
-  pub size : next + 51 * length ops ≤ 51 * 4096
-  pub lines : line + length ops ≤ 4098
+  pub size : next + 51 * length ops ≤ 51 * most-operations
+  pub lines : line + length ops ≤ most-operations + 2
 
 module _ (text : List ℕ) (body n : ℕ) (sheet old : List ℕ) (r : Ready text body n sheet) where
   pub print-begin : Printing text body n sheet old old body 2 0 0
@@ -92,7 +92,7 @@ module _ (text : List ℕ) (body n : ℕ) (sheet old : List ℕ) (r : Ready text
     print-whole l e = never-malformed n (w .room) line text at (w .ops) (w .left) l e
 
     module _ (l : at < length text) (op : Op) (behind : ℕ) (s : Stands op-line text at op behind) where
-      pub print-room : next + 51 ≤ 51 * 4096
+      pub print-room : next + 51 ≤ 51 * most-operations
       print-room =
           let q = next-at n (w .room) line text at (w .ops) (w .left) op behind l s in
           omega (arith, ap length (q .ops-is), w .size)

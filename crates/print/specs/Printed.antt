@@ -1,9 +1,10 @@
 -- What a run prints, and what the program `shot` prints: document 01, its last example. Assumes nothing.
 use mathlib.Core.Bool.{cond}
 use mathlib.Core.List.{List, [], _∷_, _++_}
-use Prim.Native.Nat.{ℕ, suc}
+use Prim.Native.Nat.{ℕ, suc, _*_, _+_}
 use lib.Dec.{eqb, ltb}
 use lib.ListN.{length}
+use Rattle.limits.specs.Limits.{most-qubits, most-operations}
 use Rattle.answers.specs.Verdict.{Verdict, accepted, refused, then}
 use Rattle.pauli.specs.Rows.{Row}
 use Rattle.pauli.specs.Texts.{listed, row-text}
@@ -50,9 +51,9 @@ pub record Recorded (text coins old answer new : List ℕ) : Type 0 where
   pub rest : List ℕ
   pub runs : Runs text coins old answer rest new
 
--- the longest printed text: 4,096 outcome lines of 17 bytes, and 128 rows of 66 with their end bytes
+-- the longest printed text: 4,096 outcome lines of 18 bytes, and 256 rows of 130 with their end bytes
 abbrev pub longest-text : ℕ
-longest-text = 78080
+longest-text = 18 * most-operations + 2 * most-qubits * (most-qubits + 2)
 
 -- what stands before the first end byte, which is left off
 abbrev pub first-line : List ℕ → List ℕ

@@ -6,6 +6,7 @@ ghost use Rattle.answers.specs.Verdict.{accepted};
 ghost use Rattle.answers.specs.Refusals.{Writes};
 ghost use Rattle.circuit_writer.specs.parts.Storing.{Stores};
 ghost use Rattle.walking.specs.parts.Walk.{lines-of};
+ghost use Rattle.records.specs.Record.{longest-record};
 ghost use Rattle.print.specs.Printed.{printed, Recorded, too-long, shot-printed};
 ghost use Rattle.print.specs.parts.Sheets.{outcome-told, op-text, sheet-lines, Ready, ReadyAs, shape-lines, Answered, Split};
 use answers::Refusal;
@@ -69,7 +70,7 @@ fn put_shape(out: &mut [u8], text: &[u8], shape: Shape, sheet: &[u8]) -> usize
 }
 
 fn answered(text: &[u8], coins: &[u8], sheet: &mut [u8], answer: &mut [u64; 6]) -> Shape
-    requires { ⌜ 12428 ≤ length (now sheet) ⌝ }
+    requires { ⌜ longest-record ≤ length (now sheet) ⌝ }
     ensures { λ r. ⌜ Answered (now (text .entry)) (now (coins .entry)) (now (sheet .entry)) (now (answer .exit)) r (now (sheet .exit)) ⌝ }
 {
     run::run(text, coins, sheet, answer);
@@ -93,7 +94,7 @@ fn answered(text: &[u8], coins: &[u8], sheet: &mut [u8], answer: &mut [u64; 6]) 
 pub fn run_and_print(
     circuit: &[u8],
     coins: &[u8],
-    sheet: &mut [u8; 12428],
+    sheet: &mut [u8; limits::LONGEST_RECORD],
     answer: &mut [u64; 6],
     out: &mut [u8],
 ) -> Written
@@ -112,7 +113,7 @@ pub fn run_and_print(
 pub fn print(circuit: &[u8], coins: &[u8], out: &mut [u8]) -> Written
     ensures { λ r. ⌜ Writes (accepted (printed (now (circuit .entry)) (now (coins .entry)))) (now (out .entry)) r (now (out .exit)) ⌝ }
 {
-    let mut sheet = [0u8; 12428];
+    let mut sheet = [0u8; limits::LONGEST_RECORD];
     let mut answer = [0u64; 6];
     run_and_print(circuit, coins, &mut sheet, &mut answer, out)
 }

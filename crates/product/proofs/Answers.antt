@@ -13,7 +13,7 @@ use Rattle.answers.proofs.First.{lowest-some, lowest-none}
 use Rattle.pauli.specs.Rows.{phased, product, anticommute, minus-sign, times-row}
 use Rattle.pauli.specs.Texts.{fits-at, spelled, row-text}
 use Rattle.pauli.proofs.RowLaws.{product-even}
-use Rattle.product.specs.Product.{lengths-fit, listed-at, first-bad-of-two, multiplied, product-of}
+use Rattle.product.specs.Product.{longest-row, lengths-fit, listed-at, first-bad-of-two, multiplied, product-of}
 use Rattle.product.specs.parts.Table.{power-number, Bad, letter-text}
 use Rattle.product.proofs.Laws.{number-odd, number-sign}
 
@@ -30,15 +30,15 @@ module _ (first second : List ℕ) where
   differ-13 h = refused-13 (rw (ne-eqb (length first) (length second) h))
 
   pub short-13 : length first < 2 → product-of first second ≡ refused 13 0
-  short-13 h = refused-13 (ap (λ b. b && leb (length first) 65) (and-false (eqb (length first) (length second)) (leb 2 (length first)) (lt-leb 2 (length first) h)))
+  short-13 h = refused-13 (ap (λ b. b && leb (length first) longest-row) (and-false (eqb (length first) (length second)) (leb 2 (length first)) (lt-leb 2 (length first) h)))
 
-  pub long-13 : 65 < length first → product-of first second ≡ refused 13 0
-  long-13 h = refused-13 (and-false (eqb (length first) (length second) && leb 2 (length first)) (leb (length first) 65) (lt-leb (length first) 65 h))
+  pub long-13 : longest-row < length first → product-of first second ≡ refused 13 0
+  long-13 h = refused-13 (and-false (eqb (length first) (length second) && leb 2 (length first)) (leb (length first) longest-row) (lt-leb (length first) longest-row h))
 
-  module _ (same : length first ≡ length second) (least : 2 ≤ length first) (most : length first ≤ 65) where
+  module _ (same : length first ≡ length second) (least : 2 ≤ length first) (most : length first ≤ longest-row) where
     fit : product-of first second ≡ (unless-at 10 (first-bad-of-two first second) (multiplied (length first - 1) first second))
     fit =
-        let e : lengths-fit first second ≡ true = rw (eq-eqb (length first) (length second) same, le-leb 2 (length first) least, le-leb (length first) 65 most) in
+        let e : lengths-fit first second ≡ true = rw (eq-eqb (length first) (length second) same, le-leb 2 (length first) least, le-leb (length first) longest-row most) in
         ap (λ b. unless b 13 0 (unless-at 10 (first-bad-of-two first second) (multiplied (length first - 1) first second))) e
 
     at-first : (k : ℕ) → k < length first → listed-at first second k ≡ fits-at k (getD first k 0)

@@ -7,14 +7,15 @@ use lib.Dec.{eqb, leb, ltb}
 use lib.ListN.{length, getD}
 use Rattle.answers.specs.First.{lowest}
 use Rattle.answers.specs.Verdict.{Verdict, accepted, unless, unless-at}
+use Rattle.limits.specs.Limits.{most-qubits}
 use Rattle.pauli.specs.Rows.{anticommute, times-row}
 use Rattle.pauli.specs.Texts.{fits-at, row-text, spelled}
 
--- the longest row text: a sign and 64 letters
+-- the longest row text: a sign, and a letter for each qubit
 abbrev pub longest-row : ℕ
-longest-row = 65
+longest-row = 1 + most-qubits
 
--- 13: lengths differ, or not 2 to 65 bytes
+-- 13: lengths differ, or not 2 to 129 bytes
 abbrev pub lengths-fit : List ℕ → List ℕ → Bool
 lengths-fit first second = eqb (length first) (length second) && leb 2 (length first) && leb (length first) longest-row
 

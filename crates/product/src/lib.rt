@@ -9,7 +9,7 @@ ghost use Rattle.pauli.specs.Letters.{sign};
 ghost use Rattle.pauli.specs.Rows.{product, phased};
 ghost use Rattle.pauli.specs.Texts.{letter-of, fits-at, spelled, sign-byte};
 ghost use Rattle.product.specs.parts.Table.{code-of, power-number, Tabled, Bad, letter-text};
-ghost use Rattle.product.specs.Product.{product-of};
+ghost use Rattle.product.specs.Product.{longest-row, product-of};
 use answers::Refusal;
 use answers::Written;
 
@@ -82,7 +82,7 @@ fn wide(x: u8) -> u64
 
 // The power of i before the product: the letters' powers and two for each minus, not yet reduced.
 fn power_sum(first: &[u8], second: &[u8]) -> u64
-    requires { ⌜ (length (now first) ≡ length (now second)) × (1 ≤ length (now first)) × (length (now first) ≤ 65) ⌝ }
+    requires { ⌜ (length (now first) ≡ length (now second)) × (1 ≤ length (now first)) × (length (now first) ≤ longest-row) ⌝ }
     ensures { λ r. ⌜ r % 4 ≡ power-number (product (length (now (first .entry)) - 1) (phased (spelled (now (first .entry)))) (phased (spelled (now (second .entry)))) .phase) ⌝ }
 {
     let mut sum = minus(first[0]) + minus(second[0]);
@@ -132,7 +132,7 @@ pub fn product(first: &[u8], second: &[u8], out: &mut [u8]) -> Written
     if size < 2 {
         return Written::Refused(Refusal::RowLengths);
     }
-    if 65 < size {
+    if limits::LONGEST_ROW < size {
         return Written::Refused(Refusal::RowLengths);
     }
     let one = bad(first);

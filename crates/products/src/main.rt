@@ -29,10 +29,10 @@ fn refuse(r: Refusal) {
 }
 
 fn multiply(first: &[u8], second: &[u8]) {
-    let mut out = [0u8; 65];
+    let mut out = [0u8; limits::LONGEST_ROW];
     match product::product(first, second, &mut out) {
         Written::Bytes(n) => {
-            if n <= 65 {
+            if n <= out.len() {
                 io::write_all(STDOUT_FILENO, &out[..n]);
             }
         }

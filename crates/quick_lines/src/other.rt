@@ -2,6 +2,7 @@
 ghost use mathlib.Core.Bool.{true};
 ghost use mathlib.Core.Path.{_≡_};
 ghost use Prim.Native.Nat.{_≤_, _<_};
+ghost use Rattle.limits.specs.Limits.{most-qubits};
 ghost use Rattle.circuit.specs.Text.{all-below};
 ghost use Rattle.quick_lines.specs.parts.Coded.{op-in, length-in, OpAt};
 use circuit::Line;
@@ -11,7 +12,7 @@ use clifford::Op;
 use clifford::Two;
 
 fn of(op: Op, length: usize) -> usize
-    requires { ⌜ (all-below 64 op ≡ true) × (1 ≤ length) × (length < 256) ⌝ }
+    requires { ⌜ (all-below most-qubits op ≡ true) × (1 ≤ length) × (length < 256) ⌝ }
     ensures { λ r. ⌜ (0 < r) × (op-in r ≡ op) × (length-in r ≡ length) ⌝ }
 {
     match op {
@@ -30,7 +31,7 @@ fn of(op: Op, length: usize) -> usize
 }
 
 pub fn line_at(s: &[u8], at: usize, n: usize) -> usize
-    requires { ⌜ n ≤ 64 ⌝ }
+    requires { ⌜ n ≤ most-qubits ⌝ }
     ensures { λ r. ⌜ OpAt (now (s .entry)) at n r ⌝ }
 {
     match circuit::line_at(s, at) {

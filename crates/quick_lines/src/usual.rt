@@ -1,13 +1,15 @@
-// Reads a line of the usual kind: one of the nine names, qubits of one or two digits, and nothing near the end of the text. Such a line needs few
-// tests, and its operation goes back as one number, by no way of memory. What is 0 here is left to `line_at`.
+// Reads a line of the usual kind: one of the nine names, qubits of one to three digits, and nothing near the end of the text. Such a line needs few
+// tests, and its operation goes back as one number, by no way of memory. Between one digit and two there is no jump: a jump there is often mispredicted. What is 0
+// here is left to `line_at`.
 ghost use mathlib.Core.Bool.{true, false, _&&_, cond};
 ghost use mathlib.Core.List.{List, _∷_};
 ghost use mathlib.Core.Path.{_≡_};
-ghost use Prim.Native.Nat.{ℕ, _+_, _-_, _*_, _≤_, _<_};
+ghost use Prim.Native.Nat.{ℕ, _+_, _-_, _*_, _%_, _≤_, _<_};
 ghost use lib.Dec.{leb};
 ghost use lib.ListN.{length, getD};
+ghost use Rattle.limits.specs.Limits.{most-qubits};
 ghost use Rattle.circuit.specs.Lines.{space, is-digit, with-one, with-two, names, operands, named};
-ghost use Rattle.quick_lines.specs.parts.Coded.{op-of, digits-by, QubitAt, Usual};
+ghost use Rattle.quick_lines.specs.parts.Coded.{op-of, digits-at, QubitAt, Usual};
 
 // The name of an operation on one qubit, if it is a single letter.
 fn single(c: u8) -> bool
@@ -41,36 +43,55 @@ fn is_digit(c: u8) -> bool
     (48 <= c) & (c <= 57)
 }
 
-// How many digits a number has, by the byte behind its first.
-fn width(second: u8) -> usize
-    ensures { λ r. ⌜ r ≡ digits-by second ⌝ }
+fn one_if(b: bool) -> usize
+    ensures { λ r. ⌜ r ≡ cond b 1 0 ⌝ }
 {
-    if is_digit(second) { 2 } else { 1 }
+    if b { 1 } else { 0 }
 }
 
-// Whether a number begins with these bytes, and not with a zero too many.
-fn starts(first: u8, second: u8) -> bool
-    ensures { λ r. ⌜ r ≡ (is-digit first && leb (digits-by second + 47) first) ⌝ }
+// How many digits the number behind this space has, if this byte ends it.
+fn width(s: &[u8], at: usize, stop: u8) -> usize
+    requires { ⌜ at + 5 ≤ length (now s) ⌝ }
+    ensures { λ r. ⌜ r ≡ digits-at (now (s .entry)) at stop ⌝ }
 {
-    is_digit(first) & (width(second) + 47 <= first as usize)
+    if s[at + 4] == stop {
+        return 3;
+    }
+    1 + one_if(is_digit(s[at + 2]))
 }
 
-// The number of one or two digits that begins with these bytes.
-fn value(first: u8, second: u8) -> usize
-    requires { ⌜ is-digit first ≡ true ⌝ }
-    ensures { λ r. ⌜ r ≡ cond (is-digit second) (10 * (first - 48) + (second - 48)) (first - 48) ⌝ }
+// Whether a number begins with this byte, with more behind it or not: not with a zero too many.
+fn starts(first: u8, more: bool) -> bool
+    ensures { λ r. ⌜ r ≡ (leb first 57 && leb (48 + cond more 1 0) first) ⌝ }
 {
-    let d = (first - 48) as usize;
-    if is_digit(second) {
-        10 * d + (second - 48) as usize
+    (first <= 57) & (48 + one_if(more) <= first as usize)
+}
+
+// The number of one or two digits that these bytes make.
+fn value(first: u8, more: bool, second: u8) -> usize
+    ensures { λ r. ⌜ r ≡ cond more (10 * (first % 16) + second % 16) (first % 16) ⌝ }
+{
+    let d = (first % 16) as usize;
+    if more {
+        10 * d + (second % 16) as usize
     } else {
         d
     }
 }
 
+// The number of three digits that these bytes make; n where they make none.
+fn three(first: u8, second: u8, third: u8, n: usize) -> usize
+    ensures { λ r. ⌜ (r < n → ((is-digit second && is-digit third) ≡ true) × (r ≡ 100 * (first % 16) + 10 * (second % 16) + third % 16)) ⌝ }
+{
+    if !(is_digit(second) & is_digit(third)) {
+        return n;
+    }
+    100 * (first % 16) as usize + 10 * (second % 16) as usize + (third % 16) as usize
+}
+
 // The qubit whose number stands behind a space, with this byte behind it; n where none does.
 fn qubit(s: &[u8], at: usize, n: usize, stop: u8) -> usize
-    requires { ⌜ (at + 4 ≤ length (now s)) × (is-digit stop ≡ false) ⌝ }
+    requires { ⌜ (at + 5 ≤ length (now s)) × (is-digit stop ≡ false) ⌝ }
     ensures { λ r. ⌜ QubitAt (now (s .entry)) at n stop r ⌝ }
 {
     if s[at] != 32 {
@@ -78,18 +99,22 @@ fn qubit(s: &[u8], at: usize, n: usize, stop: u8) -> usize
     }
     let first = s[at + 1];
     let second = s[at + 2];
-    if !starts(first, second) {
+    let more = is_digit(second);
+    if !starts(first, more) {
         return n;
     }
-    if s[at + 1 + width(second)] != stop {
+    if s[at + 4] == stop {
+        return three(first, second, s[at + 3], n);
+    }
+    if s[at + 1 + width(s, at, stop)] != stop {
         return n;
     }
-    value(first, second)
+    value(first, more, second)
 }
 
 // MR and a qubit, where M and a qubit is not what stands there.
 fn reset_at(s: &[u8], at: usize, n: usize) -> usize
-    requires { ⌜ (at + 9 ≤ length (now s)) × (n ≤ 64) ⌝ }
+    requires { ⌜ (at + 11 ≤ length (now s)) × (n ≤ most-qubits) ⌝ }
     ensures { λ r. ⌜ Usual (now (s .entry)) at n r ⌝ }
 {
     if s[at] != 77 {
@@ -102,11 +127,11 @@ fn reset_at(s: &[u8], at: usize, n: usize) -> usize
     if n <= a {
         return 0;
     }
-    crate::code::pack(77, a, 1, 4 + width(s[at + 4]))
+    crate::code::pack(77, a, 1, 4 + width(s, at + 2, 10))
 }
 
 fn one_at(s: &[u8], at: usize, n: usize, c: u8) -> usize
-    requires { ⌜ (at + 9 ≤ length (now s)) × (getD (now s) at 0 ≡ c) × (n ≤ 64) ⌝ }
+    requires { ⌜ (at + 11 ≤ length (now s)) × (getD (now s) at 0 ≡ c) × (n ≤ most-qubits) ⌝ }
     ensures { λ r. ⌜ Usual (now (s .entry)) at n r ⌝ }
 {
     if !single(c) {
@@ -116,11 +141,11 @@ fn one_at(s: &[u8], at: usize, n: usize, c: u8) -> usize
     if n <= a {
         return reset_at(s, at, n);
     }
-    crate::code::pack(c as usize, a, 0, 3 + width(s[at + 3]))
+    crate::code::pack(c as usize, a, 0, 3 + width(s, at + 1, 10))
 }
 
 fn two_at(s: &[u8], at: usize, n: usize) -> usize
-    requires { ⌜ (at + 9 ≤ length (now s)) × (getD (now s) at 0 ≡ 67) × (n ≤ 64) ⌝ }
+    requires { ⌜ (at + 11 ≤ length (now s)) × (getD (now s) at 0 ≡ 67) × (n ≤ most-qubits) ⌝ }
     ensures { λ r. ⌜ Usual (now (s .entry)) at n r ⌝ }
 {
     let name = pair(s[at + 1]);
@@ -131,7 +156,7 @@ fn two_at(s: &[u8], at: usize, n: usize) -> usize
     if n <= a {
         return 0;
     }
-    let front = 3 + width(s[at + 4]);
+    let front = 3 + width(s, at + 2, 32);
     let b = qubit(s, at + front, n, 10);
     if n <= b {
         return 0;
@@ -139,17 +164,17 @@ fn two_at(s: &[u8], at: usize, n: usize) -> usize
     if a == b {
         return 0;
     }
-    crate::code::pack(name, a, b, front + 2 + width(s[at + front + 2]))
+    crate::code::pack(name, a, b, front + 2 + width(s, at + front, 10))
 }
 
 pub fn line_at(s: &[u8], at: usize, n: usize) -> usize
-    requires { ⌜ n ≤ 64 ⌝ }
+    requires { ⌜ n ≤ most-qubits ⌝ }
     ensures { λ r. ⌜ Usual (now (s .entry)) at n r ⌝ }
 {
-    if s.len() < 9 {
+    if s.len() < 11 {
         return 0;
     }
-    if s.len() - 9 < at {
+    if s.len() - 11 < at {
         return 0;
     }
     let c = s[at];

@@ -1,4 +1,5 @@
 pub mod Places
 pub mod Stacks
 pub mod Slices
-pub mod OneGroup
+pub mod Placing
+pub mod Loads

@@ -13,13 +13,14 @@ use lib.Pow.{pow-lt, pow-mono, pow-add, shl-shr, shr-shr, shl-exact}
 use lib.Seq.{getD-set-same, getD-set-other}
 use mir.Val.{boolByte}
 use borrow.Author.Tests.{lt-ltb, le-ltb, eq-eqb, ne-eqb, eqb-true, eqb-false}
+use Rattle.limits.specs.Limits.{most-qubits}
 use Rattle.pauli.specs.Letters.{_⊕_}
 use Rattle.pauli.specs.Texts.{letter-of}
 use Rattle.pauli.proofs.Cases as cases
 use Rattle.words.specs.Bit.{bit}
 use Rattle.words.proofs.BitLaws.{bit-xor, bit-zero, bit-pow}
-use Rattle.read_rows.specs.parts.Loading.{column-of, Turned, Sliced}
-use Rattle.read_rows.proofs.Stacks.{Built, next-bit, zeros}
+use Rattle.read_rows.specs.parts.Loading.{byte-count, column-of, Built, Turned, Sliced}
+use Rattle.read_rows.proofs.Stacks.{next-bit, zeros}
 
 -- ---- bits of shifted words
 
@@ -59,29 +60,29 @@ byte-bit b r k h l = ap (bit k) (shl-exact 8 (8 * r) 64 h (omega arith)) ∙ go 
 
 -- the first r bytes of the word are there
 abbrev pub Joined : List ℕ → ℕ → ℕ → ℕ → Type 0
-Joined plane j w r = (k : ℕ) → k < 64 → bit k w ≡ (ltb (k / 8) r && bit (k % 8) (getD plane (64 * (k / 8) + j) 0))
+Joined plane j w r = (k : ℕ) → k < 64 → bit k w ≡ (ltb (k / 8) r && bit (k % 8) (getD plane (k / 8 * most-qubits + j) 0))
 
 pub joined-none : (plane : List ℕ) (j : ℕ) → Joined plane j 0 0
 joined-none plane j k h = bit-zero k ∙ rw (le-ltb (k / 8) 0 (omega arith))
 
-pub joined-more : (plane : List ℕ) (j w r : ℕ) → r < 8 → getD plane (64 * r + j) 0 < 2 ^ 8 → Joined plane j w r → Joined plane j (bitXor w ((getD plane (64 * r + j) 0 * 2 ^ (8 * r)) % 2 ^ 64)) (r + 1)
+pub joined-more : (plane : List ℕ) (j w r : ℕ) → r < 8 → getD plane (r * most-qubits + j) 0 < 2 ^ 8 → Joined plane j w r → Joined plane j (bitXor w ((getD plane (r * most-qubits + j) 0 * 2 ^ (8 * r)) % 2 ^ 64)) (r + 1)
 joined-more plane j w r l small a k h =
-    let b : ℕ → Bool = λ q. bit (k % 8) (getD plane (64 * q + j) 0) in
-    bit-xor k w _ ∙ ap₂ _⊕_ (a k h) (byte-bit (getD plane (64 * r + j) 0) r k small l ∙ turn (eqb (k / 8) r) (b r)) ∙ next-bit b (k / 8) r
+    let b : ℕ → Bool = λ q. bit (k % 8) (getD plane (q * most-qubits + j) 0) in
+    bit-xor k w _ ∙ ap₂ _⊕_ (a k h) (byte-bit (getD plane (r * most-qubits + j) 0) r k small l ∙ turn (eqb (k / 8) r) (b r)) ∙ next-bit b (k / 8) r
   where
     turn : (p q : Bool) → (p && q) ≡ (q && p)
     turn = cases.tested (cases.bit ∷ cases.bit ∷ []) cases.bit _ _ tt
 
-pub joined-all : (plane : List ℕ) (j w : ℕ) → Joined plane j w 8 → (k : ℕ) → k < 64 → bit k w ≡ bit (k % 8) (getD plane (64 * (k / 8) + j) 0)
+pub joined-all : (plane : List ℕ) (j w : ℕ) → Joined plane j w 8 → (k : ℕ) → k < 64 → bit k w ≡ bit (k % 8) (getD plane (k / 8 * most-qubits + j) 0)
 joined-all plane j w a k h = a k h ∙ rw (lt-ltb (k / 8) 8 (omega arith))
 
-pub built-word : (f : ℕ → ℕ → Bool) (n : ℕ) (plane : List ℕ) (j w : ℕ) → Sliced f n n plane → n ≤ 64 → j < n → w < 2 ^ 64
-    → ((k : ℕ) → k < 64 → bit k w ≡ bit (k % 8) (getD plane (64 * (k / 8) + j) 0)) → Built (f j) n w
-built-word f n plane j w s most h small a k = go (decLt k 64)
+pub built-word : (f : ℕ → ℕ → Bool) (n count : ℕ) (plane : List ℕ) (j w : ℕ) → Sliced f n count plane → count ≤ 64 → j < n → w < 2 ^ 64
+    → ((k : ℕ) → k < 64 → bit k w ≡ bit (k % 8) (getD plane (k / 8 * most-qubits + j) 0)) → Built (f j) count w
+built-word f n count plane j w s most h small a k = go (decLt k 64)
   where
-    go : Dec (k < 64) → bit k w ≡ (ltb k n && f j k)
+    go : Dec (k < 64) → bit k w ≡ (ltb k count && f j k)
     go (yes l) = a k l ∙ s .bits j k h l
-    go (no l) = bit-high k 64 w small (omega arith) ∙ rw (le-ltb k n (omega arith))
+    go (no l) = bit-high k 64 w small (omega arith) ∙ rw (le-ltb k count (omega arith))
 
 -- ---- one row's bits turned over
 
@@ -113,20 +114,20 @@ turned-more f j bit from old new v t h e = record {
 -- ---- all rows
 
 -- a letter by its place in the row, and by its place in the column
-pub row-letter : (s : List ℕ) (at n i row j : ℕ) → row ≡ at + 1 + i * (n + 1) → letter-of (getD s (row + j) 0) ≡ column-of s at n j i
+pub row-letter : (s : List ℕ) (at n i row j : ℕ) → row ≡ at + i * (n + 1) → letter-of (getD s (row + 1 + j) 0) ≡ column-of s at n j i
 row-letter s at n i row j e =
-    let q : row + j ≡ at + 1 + j + i * (n + 1) = omega arith in
+    let q : row + 1 + j ≡ at + i * (n + 1) + (1 + j) = omega arith in
     ap (λ (k : ℕ). letter-of (getD s k 0)) q
 
-pub sliced-none : (f : ℕ → ℕ → Bool) (n : ℕ) → Sliced f n 0 (replicate 512 0)
-sliced-none f n = record { bytes = refl; bits = λ j k h l. ap (bit (k % 8)) (zeros 512 (64 * (k / 8) + j)) ∙ bit-zero (k % 8) ∙ rw (le-ltb k 0 (omega arith)) }
+pub sliced-none : (f : ℕ → ℕ → Bool) (n : ℕ) → Sliced f n 0 (replicate byte-count 0)
+sliced-none f n = record { bytes = refl; bits = λ j k h l. ap (bit (k % 8)) (zeros byte-count (k / 8 * most-qubits + j)) ∙ bit-zero (k % 8) ∙ rw (le-ltb k 0 (omega arith)) }
 
 cond-bit : (b : Bool) (t p : ℕ) → bit t (cond b (2 ^ p) 0) ≡ (b && eqb t p)
 cond-bit true t p = bit-pow t p
 cond-bit false t p = bit-zero t
 
-pub sliced-more : (f : ℕ → ℕ → Bool) (g : ℕ → Bool) (n i v : ℕ) (old new : List ℕ) → i < n → n ≤ 64 → Sliced f n i old → v ≡ (1 * 2 ^ (i % 8)) % 2 ^ 8 → ((j : ℕ) → j < n → g j ≡ f j i)
-    → Turned g n v (64 * (i / 8)) old new → Sliced f n (i + 1) new
+pub sliced-more : (f : ℕ → ℕ → Bool) (g : ℕ → Bool) (n i v : ℕ) (old new : List ℕ) → i < 64 → n ≤ most-qubits → Sliced f n i old → v ≡ (1 * 2 ^ (i % 8)) % 2 ^ 8 → ((j : ℕ) → j < n → g j ≡ f j i)
+    → Turned g n v (i / 8 * most-qubits) old new → Sliced f n (i + 1) new
 sliced-more f g n i v old new hi most s ev eg t = record { bytes = t .length-kept ∙ s .bytes; bits = λ j k h l. go j k h l (decEq (k / 8) (i / 8)) }
   where
     decEq : (a b : ℕ) → Dec (a ≡ b)
@@ -149,13 +150,13 @@ sliced-more f g n i v old new hi most s ev eg t = record { bytes = t .length-kep
         pick (yes q) = eq-eqb (k % 8) (i % 8) (omega arith) ∙ sym (eq-eqb k i q)
         pick (no q) = ne-eqb (k % 8) (i % 8) (λ r. q (omega arith)) ∙ sym (ne-eqb k i q)
 
-    go : (j k : ℕ) → j < n → k < 64 → Dec (k / 8 ≡ i / 8) → bit (k % 8) (getD new (64 * (k / 8) + j) 0) ≡ (ltb k (i + 1) && f j k)
+    go : (j k : ℕ) → j < n → k < 64 → Dec (k / 8 ≡ i / 8) → bit (k % 8) (getD new (k / 8 * most-qubits + j) 0) ≡ (ltb k (i + 1) && f j k)
     go j k h l (yes e) =
-        ap (λ (r : ℕ). bit (k % 8) (getD new (64 * r + j) 0)) e ∙ ap (bit (k % 8)) (t .inside j h ∙ ap₂ (λ (b : Bool) (w : ℕ). bitXor (getD old (64 * (i / 8) + j) 0) (cond b w 0)) (eg j h) power)
+        ap (λ (r : ℕ). bit (k % 8) (getD new (r * most-qubits + j) 0)) e ∙ ap (bit (k % 8)) (t .inside j h ∙ ap₂ (λ (b : Bool) (w : ℕ). bitXor (getD old (i / 8 * most-qubits + j) 0) (cond b w 0)) (eg j h) power)
         ∙ bit-xor (k % 8) _ _
-        ∙ ap₂ _⊕_ (ap (λ (r : ℕ). bit (k % 8) (getD old (64 * r + j) 0)) (sym e) ∙ s .bits j k h l) (cond-bit (f j i) (k % 8) (i % 8) ∙ ap (λ (b : Bool). f j i && b) (same-place k e))
+        ∙ ap₂ _⊕_ (ap (λ (r : ℕ). bit (k % 8) (getD old (r * most-qubits + j) 0)) (sym e) ∙ s .bits j k h l) (cond-bit (f j i) (k % 8) (i % 8) ∙ ap (λ (b : Bool). f j i && b) (same-place k e))
         ∙ next-bit (f j) k i
-    go j k h l (no e) = ap (bit (k % 8)) (t .outside (64 * (k / 8) + j) (λ m u q. e (omega arith))) ∙ s .bits j k h l ∙ ap (λ (b : Bool). b && f j k) (later (decLt k i))
+    go j k h l (no e) = ap (bit (k % 8)) (t .outside (k / 8 * most-qubits + j) (λ m u q. e (omega arith))) ∙ s .bits j k h l ∙ ap (λ (b : Bool). b && f j k) (later (decLt k i))
       where
         later : Dec (k < i) → ltb k i ≡ ltb k (i + 1)
         later (yes u) = lt-ltb k i u ∙ sym (lt-ltb k (i + 1) (omega arith))

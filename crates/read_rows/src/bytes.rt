@@ -4,6 +4,7 @@ ghost use mathlib.Core.Bool.{not};
 ghost use mathlib.Core.Path.{_≡_};
 ghost use Prim.Native.Nat.{_+_, _*_, _%_, _≤_};
 ghost use lib.ListN.{length, getD, drop};
+ghost use Rattle.limits.specs.Limits.{most-qubits};
 ghost use Rattle.pauli.specs.Texts.{is-sign, is-letter, fits-at};
 ghost use Rattle.records.specs.Reading.{is-mark, byte-fits};
 ghost use Rattle.read_rows.specs.parts.Loading.{First, None-where};
@@ -54,7 +55,7 @@ fn all_in_row(bytes: &[u8], at: usize, n: usize) -> bool
 }
 
 fn all_in_rows(bytes: &[u8], at: usize, n: usize) -> bool
-    requires { ⌜ (n ≤ 64) × (at + 2 * (n * (n + 1)) ≤ length (now bytes)) ⌝ }
+    requires { ⌜ (n ≤ most-qubits) × (at + 2 * (n * (n + 1)) ≤ length (now bytes)) ⌝ }
     ensures { λ r. ⌜ None-where r (λ k. not (fits-at (k % (n + 1)) (getD (now (bytes .entry)) (at + k) 0))) (2 * (n * (n + 1))) ⌝ }
 {
     let mut ok = true;
@@ -103,7 +104,7 @@ fn in_row(bytes: &[u8], at: usize, n: usize) -> usize
 
 // The first byte of the 2n rows from `at` on that is not listed, or their length.
 fn in_rows(bytes: &[u8], at: usize, n: usize) -> usize
-    requires { ⌜ (n ≤ 64) × (at + 2 * (n * (n + 1)) ≤ length (now bytes)) ⌝ }
+    requires { ⌜ (n ≤ most-qubits) × (at + 2 * (n * (n + 1)) ≤ length (now bytes)) ⌝ }
     ensures { λ r. ⌜ First (λ k. not (fits-at (k % (n + 1)) (getD (now (bytes .entry)) (at + k) 0))) (2 * (n * (n + 1))) r ⌝ }
 {
     let mut row = 0;
@@ -121,7 +122,7 @@ fn in_rows(bytes: &[u8], at: usize, n: usize) -> usize
 
 // The first byte that is not listed, from the record's start, or the number of all of them.
 pub fn bad(bytes: &[u8], start: usize, count: usize, n: usize) -> usize
-    requires { ⌜ (n ≤ 64) × (start + (count + 2 * (n * (n + 1))) ≤ length (now bytes)) ⌝ }
+    requires { ⌜ (n ≤ most-qubits) × (start + (count + 2 * (n * (n + 1))) ≤ length (now bytes)) ⌝ }
     ensures { λ r. ⌜ First (λ k. not (byte-fits n count k (getD (drop start (now (bytes .entry))) k 0))) (count + 2 * (n * (n + 1))) r ⌝ }
 {
     if all_marks(bytes, start, count) & all_in_rows(bytes, start + count, n) {

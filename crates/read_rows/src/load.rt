@@ -1,19 +1,24 @@
-// The rows of a record as words: for each qubit a word of x bits and one of z bits, bit i of it for row i. Each row's letters go along the bytes
-// of its eight rows, sixteen at a time in one register, and the bytes of a qubit are then put together.
-ghost use mathlib.Core.Bool.{_&&_, cond};
+// The rows of a record as words, those of one word of every qubit at a time. Each row's letters go along the bytes of its eight rows, sixteen at
+// a time in one register, and the bytes of a qubit are then put together.
+ghost use mathlib.Core.Bool.{cond};
 ghost use mathlib.Core.Path.{_≡_};
 ghost use Prim.Native.Nat.{ℕ, _+_, _*_, _/_, _%_, _≤_, _<_};
-ghost use lib.Dec.{eqb, ltb};
+ghost use lib.Dec.{eqb};
 ghost use lib.ListN.{length, getD};
+ghost use Rattle.limits.specs.Limits.{most-qubits};
 ghost use Rattle.pauli.specs.Letters.{x, z};
 ghost use Rattle.pauli.specs.Texts.{letter-of};
+ghost use Rattle.packing.specs.View.{Words};
 ghost use Rattle.words.specs.Bit.{bit};
-ghost use Rattle.read_rows.specs.parts.Loading.{column-of, Turned, Sliced, Loaded};
+ghost use Rattle.read_rows.specs.parts.Loading.{byte-count, column-of, Built, Turned, Sliced, Share, Placed, Loaded};
+use packing::Words;
 
-// For eight rows and a qubit a byte, of x bits and of z bits: that of rows 8r to 8r + 7 and qubit j is byte 64r + j.
+// A byte for each qubit and each eight of 64 rows: that of rows 8r to 8r + 7 and qubit j is byte r * MOST_QUBITS + j.
+pub const PLANE: usize = 8 * limits::MOST_QUBITS;
+
 pub struct Planes {
-    pub x: [u8; 512],
-    pub z: [u8; 512],
+    pub x: [u8; PLANE],
+    pub z: [u8; PLANE],
 }
 
 fn has_x(b: u8) -> bool
@@ -41,10 +46,10 @@ fn slice(
     n: usize,
     bit: u8,
     from: usize,
-    xs: &mut [u8; 512],
-    zs: &mut [u8; 512],
+    xs: &mut [u8; PLANE],
+    zs: &mut [u8; PLANE],
 )
-    requires { ⌜ (at + n ≤ length (now bytes)) × (from + n ≤ 512) × (length (now xs) ≡ 512) × (length (now zs) ≡ 512) ⌝ }
+    requires { ⌜ (at + n ≤ length (now bytes)) × (from + n ≤ byte-count) × (length (now xs) ≡ byte-count) × (length (now zs) ≡ byte-count) ⌝ }
     ensures { λ _. ⌜ Turned (λ j. x (letter-of (getD (now (bytes .entry)) (at + j) 0))) n bit from (now (xs .entry)) (now (xs .exit)) ⌝ }
     ensures { λ _. ⌜ Turned (λ j. z (letter-of (getD (now (bytes .entry)) (at + j) 0))) n bit from (now (zs .entry)) (now (zs .exit)) ⌝ }
 {
@@ -57,16 +62,25 @@ fn slice(
     }
 }
 
-fn sliced(bytes: &[u8], at: usize, n: usize) -> Planes
-    requires { ⌜ (n ≤ 64) × (at + n * (n + 1) ≤ length (now bytes)) ⌝ }
-    ensures { λ p. ⌜ Sliced (λ j i. x (column-of (now (bytes .entry)) at n j i)) n n (p .x) × Sliced (λ j i. z (column-of (now (bytes .entry)) at n j i)) n n (p .z) ⌝ }
+// The letters of `count` rows.
+fn sliced(bytes: &[u8], at: usize, n: usize, count: usize) -> Planes
+    requires { ⌜ (n ≤ most-qubits) × (count ≤ 64) × (at + count * (n + 1) ≤ length (now bytes)) ⌝ }
+    ensures { λ p. ⌜ Sliced (λ j i. x (column-of (now (bytes .entry)) at n j i)) n count (p .x) × Sliced (λ j i. z (column-of (now (bytes .entry)) at n j i)) n count (p .z) ⌝ }
 {
-    let mut xs = [0u8; 512];
-    let mut zs = [0u8; 512];
-    let mut row = at + 1;
+    let mut xs = [0u8; PLANE];
+    let mut zs = [0u8; PLANE];
+    let mut row = at;
     let mut i: usize = 0;
-    while i < n {
-        slice(bytes, row, n, 1 << (i % 8), 64 * (i / 8), &mut xs, &mut zs);
+    while i < count {
+        slice(
+            bytes,
+            row + 1,
+            n,
+            1 << (i % 8),
+            (i / 8) * limits::MOST_QUBITS,
+            &mut xs,
+            &mut zs,
+        );
         row += n + 1;
         i += 1;
     }
@@ -75,27 +89,27 @@ fn sliced(bytes: &[u8], at: usize, n: usize) -> Planes
 
 // The eight bytes of a qubit, as a word.
 fn word(plane: &[u8], j: usize) -> u64
-    requires { ⌜ (j < 64) × (length (now plane) ≡ 512) ⌝ }
-    ensures { λ w. ⌜ ((k : ℕ) → k < 64 → bit k w ≡ bit (k % 8) (getD (now (plane .entry)) (64 * (k / 8) + j) 0)) ⌝ }
+    requires { ⌜ (j < most-qubits) × (length (now plane) ≡ byte-count) ⌝ }
+    ensures { λ w. ⌜ ((k : ℕ) → k < 64 → bit k w ≡ bit (k % 8) (getD (now (plane .entry)) (k / 8 * most-qubits + j) 0)) ⌝ }
 {
     let mut w: u64 = 0;
     let mut r: usize = 0;
     while r < 8 {
-        w = w ^ ((plane[64 * r + j] as u64) << (8 * r));
+        w = w ^ ((plane[r * limits::MOST_QUBITS + j] as u64) << (8 * r));
         r += 1;
     }
     w
 }
 
-// The signs at `at`, and each `step` bytes further on, of n rows: a bit is a minus.
-fn signs(bytes: &[u8], at: usize, step: usize, n: usize) -> u64
-    requires { ⌜ (n ≤ 64) × (step ≤ 65) × ((i : ℕ) → i < n → at + i * step < length (now bytes)) ⌝ }
-    ensures { λ w. ⌜ ((k : ℕ) → bit k w ≡ (ltb k n && eqb (getD (now (bytes .entry)) (at + k * step) 0) 45)) ⌝ }
+// The signs at `at`, and each `step` bytes further on, of `count` rows: a bit is a minus.
+fn signs(bytes: &[u8], at: usize, step: usize, count: usize) -> u64
+    requires { ⌜ (count ≤ 64) × (at + count * step ≤ length (now bytes)) × (1 ≤ step) ⌝ }
+    ensures { λ w. ⌜ Built (λ i. eqb (getD (now (bytes .entry)) (at + i * step) 0) 45) count w ⌝ }
 {
     let mut w: u64 = 0;
     let mut from = at;
     let mut i: usize = 0;
-    while i < n {
+    while i < count {
         w = w ^ (((bytes[from] == b'-') as u64) << i);
         from += step;
         i += 1;
@@ -103,21 +117,51 @@ fn signs(bytes: &[u8], at: usize, step: usize, n: usize) -> u64
     w
 }
 
-// The n rows from `at` on.
-pub fn group(bytes: &[u8], at: usize, n: usize) -> [u64; 129]
-    requires { ⌜ (n ≤ 64) × (at + n * (n + 1) ≤ length (now bytes)) ⌝ }
-    ensures { λ w. ⌜ Loaded (now (bytes .entry)) at n w ⌝ }
+// The `count` rows from `at` on, as word g of every qubit and of the signs.
+fn place(bytes: &[u8], at: usize, n: usize, count: usize, g: usize, w: &mut Words)
+    requires { ⌜ Words (now w) × (n ≤ most-qubits) × (count ≤ 64) × (g < 4) × (at + count * (n + 1) ≤ length (now bytes)) ⌝ }
+    ensures { λ _. ⌜ Placed (now (bytes .entry)) at n count g (now (w .entry)) (now (w .exit)) ⌝ }
 {
-    let p = sliced(bytes, at, n);
+    let p = sliced(bytes, at, n, count);
     let x = p.x;
     let z = p.z;
-    let mut w = [0u64; 129];
     let mut j: usize = 0;
     while j < n {
-        w[j] = word(&x, j);
-        w[64 + j] = word(&z, j);
+        w[8 * j + g] = word(&x, j);
+        w[8 * j + 4 + g] = word(&z, j);
         j += 1;
     }
-    w[128] = signs(bytes, at, n + 1, n);
-    w
+    w[packing::SIGNS + g] = signs(bytes, at, n + 1, count);
+}
+
+// How many of n destabilizers, or of n stabilizers, have their bits in word g.
+fn share(n: usize, g: usize) -> usize
+    requires { ⌜ (n ≤ most-qubits) × (g < 4) ⌝ }
+    ensures { λ r. ⌜ Share n g r ⌝ }
+{
+    let before = 64 * (g % 2);
+    if n <= before {
+        return 0;
+    }
+    if n - before < 64 {
+        return n - before;
+    }
+    64
+}
+
+// The 2n rows from `at` on.
+pub fn rows(bytes: &[u8], at: usize, n: usize, w: &mut Words)
+    requires { ⌜ Words (now w) × (n ≤ most-qubits) × (at + 2 * (n * (n + 1)) ≤ length (now bytes)) ⌝ }
+    ensures { λ _. ⌜ Loaded (now (bytes .entry)) at n (now (w .exit)) ⌝ }
+{
+    start_rows::clear(w);
+    let mut g: usize = 0;
+    while g < 4 {
+        let count = share(n, g);
+        if 0 < count {
+            let row = n * (g / 2) + 64 * (g % 2);
+            place(bytes, at + row * (n + 1), n, count, g, w);
+        }
+        g += 1;
+    }
 }

@@ -3,12 +3,13 @@ use mathlib.Core.Path.{_≡_, sym, _∙_, ap}
 use mathlib.Core.Bool.{true, false, _&&_}
 use mathlib.Core.List.{List, _∷_}
 use Prim.Native.Nat.{ℕ, suc, _+_, _-_, _*_, _≤_, _<_}
-use native.Mathlib.Nat.{mul-le-mul}
 use native.Mathlib.Omega.{arith}
 use lib.Dec.{eqb, leb}
 use lib.ListN.{length, getD, take, drop}
 use lib.Seq.{drop-cons, getD-drop}
 use borrow.Author.Tests.{le-leb, lt-leb}
+use Rattle.limits.specs.Limits.{most-operations, most-qubits}
+use Rattle.records.proofs.Lengths.{square-below}
 use Rattle.records.proofs.Ending.{ending}
 use Rattle.records.specs.Record.{to-rows}
 use Rattle.records.specs.Reading.{number-in, first-distance, second-distance, qubits-in, ends-in-record}
@@ -34,29 +35,29 @@ pub ends-short : (s : List ℕ) → length s < 12 → false ≡ ends-in-record s
 ends-short s h = rw (lt-leb 12 (length s) h)
 
 pub ends-tested : (s : List ℕ) (near far n : ℕ) → 12 ≤ length s → near ≡ first-distance s → far ≡ second-distance s → n ≡ qubits-in s
-    → (eqb (getD s (length s - 12 + 10) 0) 0x53 && eqb (getD s (length s - 12 + 11) 0) 0x52 && leb 1 n && leb n 64 && eqb near (12 + 2 * (n * (n + 1))) && leb near far && leb far (near + 4096) && leb far (length s))
+    → (eqb (getD s (length s - 12 + 10) 0) 0x53 && eqb (getD s (length s - 12 + 11) 0) 0x52 && leb 1 n && leb n most-qubits && eqb near (12 + 2 * (n * (n + 1))) && leb near far && leb far (near + most-operations) && leb far (length s))
     ≡ ends-in-record s
 ends-tested s near far n h a b c = rw (a, b, c, le-leb 12 (length s) h, getD-drop (length s - 12) s 10 0, getD-drop (length s - 12) s 11 0)
 
 -- what the numbers of a record that were read satisfy
 pub record Pointed (s : List ℕ) (n near far : ℕ) : Type 0 where
   pub least : 1 ≤ n
-  pub most : n ≤ 64
-  pub half : n * (n + 1) ≤ 4160
+  pub most : n ≤ most-qubits
+  pub half : n * (n + 1) ≤ most-qubits * (most-qubits + 1)
   pub rows : near ≡ 12 + 2 * (n * (n + 1))
   pub order : near ≤ far
-  pub few : far ≤ near + 4096
+  pub few : far ≤ near + most-operations
   pub inside : far ≤ length s
 
 pub pointed : (s : List ℕ) (n near far : ℕ) → ends-in-record s ≡ true → n ≡ qubits-in s → near ≡ first-distance s → far ≡ second-distance s → Pointed s n near far
 pointed s n near far e a b c =
     let f = ending s e in
     let l : 1 ≤ n = omega (arith, f .least) in
-    let m : n ≤ 64 = omega (arith, f .most) in
+    let m : n ≤ most-qubits = omega (arith, f .most) in
     record {
       least = l;
       most = m;
-      half = mul-le-mul {n₂ = 64} {m₂ = 65} m (omega arith);
+      half = square-below n m;
       rows = b ∙ f .first ∙ ap to-rows (sym a);
       order = omega (arith, f .above);
       few = omega (arith, f .few);

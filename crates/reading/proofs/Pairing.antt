@@ -1,46 +1,31 @@
--- One row against all rows of a group, as words, and when a row is the lower row of a wrong pair. Assumes nothing.
+-- The wrong pairs of packed rows by the numbers of the rows, and what words that tell of them say. Assumes nothing.
 use mathlib.Core.Path.{_≡_, refl, sym, _∙_, ap, ap₂}
-use mathlib.Core.Bool.{Bool, true, false, not, _&&_, true≢false, _||_}
+use mathlib.Core.Bool.{Bool, true, false, cond}
 use mathlib.Core.List.{List, [], _∷_}
-use mathlib.Core.Option.{Option, none, some}
 use Prim.Native.Nat.{ℕ, zero, suc, _+_, _-_, _*_, _/_, _%_, _^_, _≤_, _<_}
 use native.Mathlib.Decide.{decLt}
-use native.Mathlib.Nat.{mod-lt, zero-lt-suc, zero-mul, one-mul, lt-of-le-of-lt, pow-suc}
-use native.Mathlib.Numerals.{add-one}
+use native.Mathlib.Nat.{mod-lt, zero-lt-suc, lt-of-le-of-lt, pow-suc, zero-add}
 use native.Mathlib.Omega.{arith}
-use lib.Bits.{bitAnd, bitOr, bitXor, and-mask, or-lt, xor-lt}
-use lib.Dec.{eqb}
-use lib.ListN.{getD}
+use lib.Bits.{bitXor, xor-lt}
+use lib.Dec.{eqb, ltb}
 use lib.Pow.{shr-le}
-use borrow.Author.Tests.{lt-ltb, eq-eqb, ne-eqb, eqb-false}
-use Rattle.answers.specs.First.{lowest}
-use Rattle.answers.proofs.First.{Answer, lowest-is}
-use Rattle.pauli.specs.Letters.{Letter, _⊕_, letter, differ}
-use Rattle.pauli.specs.Rows.{odd-number, anticommute}
+use borrow.Author.Tests.{lt-ltb, le-ltb, eq-eqb, ne-eqb, eqb-true, eqb-false}
+use Rattle.limits.specs.Limits.{most-qubits}
+use Rattle.pauli.specs.Letters.{Letter, I, _⊕_, differ}
+use Rattle.pauli.specs.Rows.{Row}
 use Rattle.pauli.proofs.Cases as cases
 use Rattle.pauli.proofs.LetterLaws.{xor-adds}
 use Rattle.pauli.proofs.RowLaws.{anticommute-self}
 use Rattle.pauli.proofs.Sums.{sum-cong, sum-zero}
-use Rattle.clifford.specs.Tableau.{Rows}
-use Rattle.packing.specs.View.{letter-at, row-at, group-rows, rows-of, Holds}
-use Rattle.records.specs.Reading.{is-some, wrong-pair}
+use Rattle.packing.specs.View.{row-count, letter-at, row-at, rows-of, Holds}
+use Rattle.packing.proofs.Views.{guard-in, rows-in}
+use Rattle.records.specs.Reading.{numbered, wrong-pair}
+use Rattle.records.proofs.Pairs.{numbered-low, numbered-high}
 use Rattle.words.specs.Bit.{bit}
-use Rattle.words.proofs.BitLaws.{bit-xor, bit-and, bit-or, bit-zero, bit-ones, bit-shl, bit-low, bit-suc}
+use Rattle.words.proofs.BitLaws.{bit-xor, bit-zero, bit-shl, bit-low, bit-suc}
 use Rattle.read_rows.proofs.Slices.{bit-high, bit-shr}
-use Rattle.reading.specs.parts.Pairs.{Against}
-use Rattle.reading.proofs.WrongPairs.{cancel, alone, below, pair-dd, pair-ds, pair-ss}
-
--- ---- words
-
--- a word of 64 bits that are all bit i of a
-spread-digit : (d k : ℕ) → d < 2 → k < 64 → bit k (d * (2 ^ 64 - 1)) ≡ eqb d 1
-spread-digit zero k l h = ap (bit k) (zero-mul (2 ^ 64 - 1)) ∙ bit-zero k
-spread-digit (suc zero) k l h = ap (bit k) (one-mul (2 ^ 64 - 1)) ∙ bit-ones 64 k h
-spread-digit (suc (suc d)) k l h = absurd (omega arith)
-
-spread : (i a k : ℕ) → k < 64 → bit k (bitAnd (a / 2 ^ i) 1 * (2 ^ 64 - 1)) ≡ bit i a
-unfolding bit
-spread i a k h = ap (λ (m : ℕ). bit k (m * (2 ^ 64 - 1))) (and-mask (a / 2 ^ i) 1) ∙ spread-digit (a / 2 ^ i % 2) k (mod-lt (a / 2 ^ i) (zero-lt-suc 1)) h
+use Rattle.reading.proofs.WrongPairs.{cancel, alone, pair}
+use Rattle.reading.proofs.Columns.{odds, Marks}
 
 -- a word with no bit set is zero
 no-bits : (m a : ℕ) → a < 2 ^ m → ((k : ℕ) → k < m → bit k a ≡ false) → a ≡ 0
@@ -55,137 +40,146 @@ no-bits (suc m) a h b =
     low zero l e = refl
     low (suc d) l e = absurd (eqb-false (suc d) 1 e (omega arith))
 
--- ---- the pass over the columns
+-- ---- rows by their numbers
 
--- an odd number of the first j columns hold different letters, neither I
-abbrev pub odds : List ℕ → List ℕ → ℕ → ℕ → ℕ → Bool
-odds own other i k j = odd-number (λ q. differ (letter-at own i q) (letter-at other k q)) j
+-- the number of row i of the 2n
+abbrev pub number : ℕ → ℕ → ℕ
+number n i = cond (ltb i n) i (most-qubits + (i - n))
 
-pub passed-none : (own other : List ℕ) (i : ℕ) → Against own other 0 i 0
-passed-none own other i k h = bit-zero k
+pub number-low : (n i : ℕ) → i < n → number n i ≡ i
+number-low n i h = rw (lt-ltb i n h)
 
-pub passed-more : (own other : List ℕ) (i w j : ℕ) → Against own other j i w
-    → Against own other (j + 1) i (bitXor w (bitXor (bitAnd (bitAnd (getD own j 0 / 2 ^ i) 1 * (2 ^ 64 - 1)) (getD other (64 + j) 0)) (bitAnd (bitAnd (getD own (64 + j) 0 / 2 ^ i) 1 * (2 ^ 64 - 1)) (getD other j 0))))
-passed-more own other i w j a k h =
-    let x = bitAnd (getD own j 0 / 2 ^ i) 1 * (2 ^ 64 - 1) in
-    let z = bitAnd (getD own (64 + j) 0 / 2 ^ i) 1 * (2 ^ 64 - 1) in
-    bit-xor k w _
-    ∙ ap₂ _⊕_ (a k h)
-    (bit-xor k (bitAnd x (getD other (64 + j) 0)) (bitAnd z (getD other j 0))
-    ∙ ap₂ _⊕_ (bit-and k x (getD other (64 + j) 0) ∙ ap (λ (b : Bool). b && bit k (getD other (64 + j) 0)) (spread i (getD own j 0) k h))
-    (bit-and k z (getD other j 0) ∙ ap (λ (b : Bool). b && bit k (getD other j 0)) (spread i (getD own (64 + j) 0) k h))
-    ∙ law (bit i (getD own j 0)) (bit i (getD own (64 + j) 0)) (bit k (getD other j 0)) (bit k (getD other (64 + j) 0)))
-    ∙ ap (odds own other i k) (sym (add-one j))
-  where
-    law : (p q r t : Bool) → (p && t) ⊕ (q && r) ≡ differ (letter p q) (letter r t)
-    law = cases.tested (cases.bit ∷ cases.bit ∷ cases.bit ∷ cases.bit ∷ []) cases.bit _ _ tt
+pub number-high : (n i : ℕ) → n ≤ i → number n i ≡ most-qubits + (i - n)
+number-high n i h = rw (le-ltb i n h)
 
--- ---- rows of two groups
+module _ (n : ℕ) (w : List ℕ) (most : n ≤ most-qubits) (held : Holds n w) where
+  row-letter : (s q : ℕ) → q < n → row-at n w s .letters q ≡ letter-at w s q
+  unfolding row-at
+  row-letter s q l = guard-in n (letter-at w s) q l
 
-module _ (n : ℕ) (most : n ≤ 64) where
-  letter-row : (w : List ℕ) (i q : ℕ) → i < n → q < n → group-rows n w i .letters q ≡ letter-at w i q
-  unfolding group-rows row-at
-  letter-row w i q h l = rw (lt-ltb i n h, lt-ltb q n l)
-
-  anti : (v w : List ℕ) (i k : ℕ) → i < n → k < n → anticommute n (group-rows n v i .letters) (group-rows n w k .letters) ≡ odds v w i k n
-  anti v w i k h l = sum-cong xor-adds _ _ n (λ q u. ap₂ differ (letter-row v i q h u) (letter-row w k q l u))
-
-  -- from n on there is no row
-  no-row : (v w : List ℕ) (i k : ℕ) → Holds n w → n ≤ k → odds v w i k n ≡ false
-  no-row v w i k g h = sum-cong xor-adds _ _ n (λ q u. ap₂ (λ (b c : Bool). differ (letter-at v i q) (letter b c)) (g .rows q k h) (g .rows (64 + q) k h) ∙ none (letter-at v i q)) ∙ sum-zero xor-adds n
+  numbered-letter : (i q : ℕ) → i < n + n → q < n → numbered n (rows-of n w) i .letters q ≡ letter-at w (number n i) q
+  numbered-letter i q h l = go (decLt i n)
     where
-      none : (l : Letter) → differ l (letter false false) ≡ false
+      go : Dec (i < n) → numbered n (rows-of n w) i .letters q ≡ letter-at w (number n i) q
+      go (yes m) =
+          ap (λ (r : Row). r .letters q) (numbered-low n (rows-of n w) i m ∙ rows-in n 0 w i m) ∙ row-letter (0 + i) q l
+          ∙ ap (λ (k : ℕ). letter-at w k q) (zero-add i ∙ sym (number-low n i m))
+      go (no m) =
+          let e : i ≡ n + (i - n) = omega arith in
+          ap (λ (k : ℕ). numbered n (rows-of n w) k .letters q) e
+          ∙ ap (λ (r : Row). r .letters q) (numbered-high n (rows-of n w) (i - n) ∙ rows-in n most-qubits w (i - n) (omega arith)) ∙ row-letter (most-qubits + (i - n)) q l
+          ∙ ap (λ (k : ℕ). letter-at w k q) (sym (number-high n i (omega arith)))
+
+  -- a pair is wrong as the two numbers tell
+  partners : (i j : ℕ) → i < j → j < n + n → eqb j (n + i) ≡ eqb (number n j) (most-qubits + number n i)
+  partners i j h l = go (decLt i n) (decLt j n)
+    where
+      go : Dec (i < n) → Dec (j < n) → eqb j (n + i) ≡ eqb (number n j) (most-qubits + number n i)
+      go (yes u) (yes v) = ne-eqb j (n + i) (λ e. omega arith) ∙ sym (ap₂ (λ (a b : ℕ). eqb a (most-qubits + b)) (number-low n j v) (number-low n i u) ∙ ne-eqb j (most-qubits + i) (λ e. omega arith))
+      go (yes u) (no v) = both (eqb j (n + i)) refl ∙ sym (ap₂ (λ (a b : ℕ). eqb a (most-qubits + b)) (number-high n j (omega arith)) (number-low n i u))
+        where
+          both : (b : Bool) → eqb j (n + i) ≡ b → b ≡ eqb (most-qubits + (j - n)) (most-qubits + i)
+          both true e =
+              let f : j ≡ n + i = eqb-true j (n + i) e in
+              sym (eq-eqb (most-qubits + (j - n)) (most-qubits + i) (omega arith))
+          both false e =
+              let f : j ≡ n + i → ⊥ = eqb-false j (n + i) e in
+              sym (ne-eqb (most-qubits + (j - n)) (most-qubits + i) (λ q. f (omega arith)))
+      go (no u) v =
+          ne-eqb j (n + i) (λ e. omega arith)
+          ∙ sym (ap₂ (λ (a b : ℕ). eqb a (most-qubits + b)) (number-high n j (omega arith)) (number-high n i (omega arith)) ∙ ne-eqb (most-qubits + (j - n)) (most-qubits + (most-qubits + (i - n))) (λ e. omega arith))
+
+  pub pair-at : (i j : ℕ) → i < j → j < n + n → wrong-pair n (rows-of n w) i j ≡ odds w n (number n i) (number n j) ⊕ eqb (number n j) (most-qubits + number n i)
+  pair-at i j h l =
+      pair n (rows-of n w) i j h
+      ∙ ap₂ _⊕_ (sum-cong xor-adds _ _ n (λ q u. ap₂ differ (numbered-letter i q (omega arith) u) (numbered-letter j q l u))) (partners i j h l)
+
+  -- rows that are none of the n of their kind
+  pub no-row : (s t : ℕ) → t < row-count → n ≤ t % most-qubits → odds w n s t ≡ false
+  no-row s t h m = sum-cong xor-adds _ _ n (λ q u. ap (differ (letter-at w s q)) (sym (row-letter t q u) ∙ ap (λ (r : Row). r .letters q) (held .rows t h m)) ∙ none (letter-at w s q)) ∙ sum-zero xor-adds n
+    where
+      none : (l : Letter) → differ l I ≡ false
       none = cases.tested (cases.ltr ∷ []) cases.bit _ _ tt
 
-  -- the rows of a group above row p
-  module _ (w : List ℕ) (g : Holds n w) (p a : ℕ) (h : p < n) (small : a < 2 ^ 64) (e : Against w w n p a) where
-    above-right : a / 2 ^ p ≡ 0 → (k : ℕ) → p < k → k < n → anticommute n (group-rows n w p .letters) (group-rows n w k .letters) ≡ false
-    above-right z k l m =
-        let u : p + (k - p) ≡ k = omega arith in
-        anti w w p k h m ∙ sym (e k (omega arith)) ∙ ap (λ (i : ℕ). bit i a) (sym u) ∙ sym (bit-shr (k - p) p a) ∙ ap (bit (k - p)) z ∙ bit-zero (k - p)
+  -- ---- words that are zero where a row is right with those of word g above it
 
-    above-zero : ((k : ℕ) → p < k → k < n → anticommute n (group-rows n w p .letters) (group-rows n w k .letters) ≡ false) → (k : ℕ) → bit k (a / 2 ^ p) ≡ false
-    above-zero b k = bit-shr k p a ∙ go (decLt (p + k) n) (decLt (p + k) 64) (decLt 0 k)
-      where
-        go : Dec (p + k < n) → Dec (p + k < 64) → Dec (0 < k) → bit (p + k) a ≡ false
-        go (yes l) d (yes m) = e (p + k) (omega arith) ∙ sym (anti w w p (p + k) h l) ∙ b (p + k) (omega arith) l
-        go (yes l) d (no m) =
-            let u : p + k ≡ p = omega arith in
-            ap (λ (i : ℕ). bit i a) u ∙ e p (omega arith) ∙ sym (anti w w p p h h) ∙ anticommute-self n (group-rows n w p .letters)
-        go (no l) (yes d) m = e (p + k) d ∙ no-row w w p (p + k) g (omega arith)
-        go (no l) (no d) m = bit-high (p + k) 64 a small (omega arith)
+  abbrev pub Right : ℕ → ℕ → Type 0
+  Right s g = (t : ℕ) → t / 64 ≡ g → s < t → t % most-qubits < n → odds w n s t ≡ eqb t (most-qubits + s)
 
--- a word that is zero exactly where no number passes a test
-decided : (w m : ℕ) (f : ℕ → Bool) → (w ≡ 0 → (j : ℕ) → j < m → f j ≡ false) → (((j : ℕ) → j < m → f j ≡ false) → w ≡ 0) → not (eqb w 0) ≡ is-some (lowest f m)
-decided w m f a b = go (lowest f m) (lowest-is f m)
-  where
-    go : (o : Option ℕ) → Answer f m o → not (eqb w 0) ≡ is-some o
-    go none k = ap not (eq-eqb w 0 (b k))
-    go (some j) k = ap not (ne-eqb w 0 (λ z. true≢false (sym (k .passes) ∙ a z j (k .below))))
-
-or-none : (a b : Bool) → (a || b) ≡ false → (a ≡ false) × (b ≡ false)
-or-none false b e = (refl, e)
-or-none true b e = absurd (true≢false e)
-
--- zero where row i is against none of the rows from i on in one word, and against its partner alone in the other
-abbrev low-word : ℕ → ℕ → ℕ → ℕ
-low-word i a b = bitOr (a / 2 ^ i) (bitXor b ((1 * 2 ^ i) % 2 ^ 64))
-
-module _ (n : ℕ) (d s : List ℕ) (most : n ≤ 64) (gd : Holds n d) (gs : Holds n s) where
-  abbrev rows : Rows
-  rows = rows-of n d s
-
-  -- a destabilizer, against all rows of both groups
-  pub wrong-low : (i a b : ℕ) → i < n → a < 2 ^ 64 → b < 2 ^ 64 → Against d d n i a → Against d s n i b
-      → not (eqb (bitOr (a / 2 ^ i) (bitXor b ((1 * 2 ^ i) % 2 ^ 64))) 0) ≡ is-some (lowest (wrong-pair n (rows-of n d s) i) (n + n))
-  wrong-low i a b h sa sb pa pb = decided (low-word i a b) (n + n) (wrong-pair n rows i) zero-right right-zero
+  -- where the rows of word g are all above row s
+  higher : (s g v : ℕ) → g < 4 → s / 64 < g → s % most-qubits < n → v < 2 ^ 64 → ((k : ℕ) → k < 64 → bit k v ≡ odds w n s (64 * g + k) ⊕ eqb (64 * g + k) (most-qubits + s))
+      → (v ≡ 0 → Right s g) × (Right s g → v ≡ 0)
+  higher s g v gl h sl small b = (zero-right, right-zero)
     where
-      bits : (k : ℕ) → bit k (low-word i a b) ≡ (bit k (a / 2 ^ i) || (bit k b ⊕ eqb k i))
-      bits k = bit-or k (a / 2 ^ i) _ ∙ ap (λ (c : Bool). bit k (a / 2 ^ i) || c) (bit-xor k b _ ∙ ap (λ (c : Bool). bit k b ⊕ c) (bit-shl k i (omega arith)))
+      zero-right : v ≡ 0 → Right s g
+      zero-right z t e l m =
+          let f : 64 * g + t % 64 ≡ t = omega arith in
+          cancel (odds w n s t) (eqb t (most-qubits + s))
+          (sym (ap (λ (k : ℕ). odds w n s k ⊕ eqb k (most-qubits + s)) f) ∙ sym (b (t % 64) (omega arith)) ∙ ap (bit (t % 64)) z ∙ bit-zero (t % 64))
 
-      parts : low-word i a b ≡ 0 → (k : ℕ) → (bit k (a / 2 ^ i) ≡ false) × (bit k b ⊕ eqb k i ≡ false)
-      parts z k = or-none (bit k (a / 2 ^ i)) (bit k b ⊕ eqb k i) (sym (bits k) ∙ ap (bit k) z ∙ bit-zero k)
-
-      none : low-word i a b ≡ 0 → a / 2 ^ i ≡ 0
-      none z = no-bits 64 (a / 2 ^ i) (lt-of-le-of-lt (shr-le a i) sa) (λ k l. parts z k .0)
-
-      zero-right : low-word i a b ≡ 0 → (j : ℕ) → j < n + n → wrong-pair n rows i j ≡ false
-      zero-right z j l = go (decLt i j) (decLt j n)
+      right-zero : Right s g → v ≡ 0
+      right-zero r = no-bits 64 v small (λ k l. b k l ∙ go k l (decLt ((64 * g + k) % most-qubits) n))
         where
-          go : Dec (i < j) → Dec (j < n) → wrong-pair n rows i j ≡ false
-          go (no u) v = below n rows i j (omega arith)
-          go (yes u) (yes v) = pair-dd n rows i j u v ∙ alone _ false refl (above-right n most d gd i a h sa pa (none z) j u v)
-          go (yes u) (no v) =
-              let e : n + (j - n) ≡ j = omega arith in
-              ap (wrong-pair n rows i) (sym e) ∙ pair-ds n rows i (j - n) h
-              ∙ ap (λ (c : Bool). c ⊕ eqb (j - n) i) (anti n most d s i (j - n) h (omega arith) ∙ sym (pb (j - n) (omega arith))) ∙ parts z (j - n) .1
+          go : (k : ℕ) → k < 64 → Dec ((64 * g + k) % most-qubits < n) → odds w n s (64 * g + k) ⊕ eqb (64 * g + k) (most-qubits + s) ≡ false
+          go k l (yes m) = ap (λ (c : Bool). c ⊕ eqb (64 * g + k) (most-qubits + s)) (r (64 * g + k) (omega arith) (omega arith) m) ∙ same (eqb (64 * g + k) (most-qubits + s))
+            where
+              same : (c : Bool) → c ⊕ c ≡ false
+              same = cases.tested (cases.bit ∷ []) cases.bit _ _ tt
+          go k l (no m) = alone _ _ (ne-eqb (64 * g + k) (most-qubits + s) (λ e. omega arith)) (no-row s (64 * g + k) (omega arith) (omega arith))
 
-      right-zero : ((j : ℕ) → j < n + n → wrong-pair n rows i j ≡ false) → low-word i a b ≡ 0
-      right-zero f = no-bits 64 (low-word i a b) (or-lt 64 (a / 2 ^ i) _ (lt-of-le-of-lt (shr-le a i) sa) (xor-lt 64 b _ sb (mod-lt (1 * 2 ^ i) (zero-lt-suc _))))
-          (λ k l. bits k ∙ rw (above-zero n most d gd i a h sa pa (λ j u v. cancel _ false (sym (pair-dd n rows i j u v) ∙ f j (omega arith))) k) (partner k l (decLt k n)))
-        where
-          partner : (k : ℕ) → k < 64 → Dec (k < n) → bit k b ⊕ eqb k i ≡ false
-          partner k l (yes u) = ap (λ (c : Bool). c ⊕ eqb k i) (pb k l ∙ sym (anti n most d s i k h u)) ∙ sym (pair-ds n rows i k h) ∙ f (n + k) (omega arith)
-          partner k l (no u) = alone (bit k b) (eqb k i) (ne-eqb k i (λ e. omega arith)) (pb k l ∙ no-row n most d s i k gs (omega arith))
-
-  -- a stabilizer, against the stabilizers
-  pub wrong-high : (i a : ℕ) → n ≤ i → i < n + n → a < 2 ^ 64 → Against s s n (i - n) a
-      → not (eqb (a / 2 ^ (i - n)) 0) ≡ is-some (lowest (wrong-pair n (rows-of n d s) i) (n + n))
-  wrong-high i a h m sa pa = decided (a / 2 ^ (i - n)) (n + n) (wrong-pair n rows i) zero-right right-zero
+  -- another word than that of the partner
+  pub other-word : (s g a : ℕ) → g < 4 → s / 64 < g → (g ≡ (most-qubits + s) / 64 → ⊥) → s % most-qubits < n → Marks w n s g a → (a ≡ 0 → Right s g) × (Right s g → a ≡ 0)
+  other-word s g a gl h p sl m =
+      higher s g a gl h sl (m .small) (λ k l. m .bits k l ∙ same (odds w n s (64 * g + k)) ∙ ap (λ (c : Bool). odds w n s (64 * g + k) ⊕ c) (sym (ne-eqb (64 * g + k) (most-qubits + s) (λ e. p (omega arith)))))
     where
-      e : n + (i - n) ≡ i
-      e = omega arith
+      same : (c : Bool) → c ≡ c ⊕ false
+      same = cases.tested (cases.bit ∷ []) cases.bit _ _ tt
 
-      zero-right : a / 2 ^ (i - n) ≡ 0 → (j : ℕ) → j < n + n → wrong-pair n rows i j ≡ false
-      zero-right z j l = go (decLt i j)
+  -- the word of the partner, in which its bit alone is set
+  pub partner-word : (s g a r : ℕ) → s < most-qubits → g ≡ 2 + s / 64 → r ≡ s % 64 → s < n → Marks w n s g a
+      → (bitXor a ((1 * 2 ^ r) % 2 ^ 64) ≡ 0 → Right s g) × (Right s g → bitXor a ((1 * 2 ^ r) % 2 ^ 64) ≡ 0)
+  partner-word s g a r h e f l m =
+      higher s g _ (omega arith) (omega arith) (omega arith) (xor-lt 64 a _ (m .small) (mod-lt (1 * 2 ^ r) (zero-lt-suc _)))
+      (λ k q. bit-xor k a _ ∙ ap₂ _⊕_ (m .bits k q) (bit-shl k r (omega arith) ∙ place k q (eqb k r) refl))
+    where
+      place : (k : ℕ) → k < 64 → (c : Bool) → eqb k r ≡ c → c ≡ eqb (64 * g + k) (most-qubits + s)
+      place k q true u =
+          let t : k ≡ r = eqb-true k r u in
+          sym (eq-eqb (64 * g + k) (most-qubits + s) (omega arith))
+      place k q false u =
+          let t : k ≡ r → ⊥ = eqb-false k r u in
+          sym (ne-eqb (64 * g + k) (most-qubits + s) (λ x. t (omega arith)))
+
+  -- its own word, with the rows below it shifted out
+  pub own-word : (s g a r : ℕ) → s < row-count → g ≡ s / 64 → r ≡ s % 64 → s % most-qubits < n → Marks w n s g a → (a / 2 ^ r ≡ 0 → Right s g) × (Right s g → a / 2 ^ r ≡ 0)
+  own-word s g a r h d f sl m = (zero-right, right-zero)
+    where
+      zero-right : a / 2 ^ r ≡ 0 → Right s g
+      zero-right z t e l q =
+          let u : 64 * g + t % 64 ≡ t = omega arith in
+          let v : r + (t - s) ≡ t % 64 = omega arith in
+          sym (ap (odds w n s) u) ∙ sym (m .bits (t % 64) (omega arith)) ∙ sym (ap (λ (k : ℕ). bit k a) v) ∙ sym (bit-shr (t - s) r a) ∙ ap (bit (t - s)) z ∙ bit-zero (t - s)
+          ∙ sym (ne-eqb t (most-qubits + s) (λ x. omega arith))
+
+      right-zero : Right s g → a / 2 ^ r ≡ 0
+      right-zero b = no-bits 64 (a / 2 ^ r) (lt-of-le-of-lt (shr-le a r) (m .small)) (λ k l. bit-shr k r a ∙ go k (decLt (r + k) 64) (decLt 0 k) (decLt ((s + k) % most-qubits) n))
         where
-          go : Dec (i < j) → wrong-pair n rows i j ≡ false
-          go (no u) = below n rows i j (omega arith)
-          go (yes u) =
-              let v : n + (j - n) ≡ j = omega arith in
-              ap₂ (wrong-pair n rows) (sym e) (sym v) ∙ pair-ss n rows (i - n) (j - n) (omega arith) (omega arith)
-              ∙ alone _ false refl (above-right n most s gs (i - n) a (omega arith) sa pa z (j - n) (omega arith) (omega arith))
+          at : (k : ℕ) → r + k < 64 → bit (r + k) a ≡ odds w n s (s + k)
+          at k l =
+              let u : 64 * g + (r + k) ≡ s + k = omega arith in
+              m .bits (r + k) l ∙ ap (odds w n s) u
 
-      right-zero : ((j : ℕ) → j < n + n → wrong-pair n rows i j ≡ false) → a / 2 ^ (i - n) ≡ 0
-      right-zero f = no-bits 64 (a / 2 ^ (i - n)) (lt-of-le-of-lt (shr-le a (i - n)) sa)
-          (λ k l. above-zero n most s gs (i - n) a (omega arith) sa pa (λ j u v. cancel _ false (sym (pair-ss n rows (i - n) j u v) ∙ ap (λ (q : ℕ). wrong-pair n rows q (n + j)) e ∙ f (n + j) (omega arith))) k)
+          go : (k : ℕ) → Dec (r + k < 64) → Dec (0 < k) → Dec ((s + k) % most-qubits < n) → bit (r + k) a ≡ false
+          go k (yes l) (yes p) (yes q) = at k l ∙ b (s + k) (omega arith) (omega arith) q ∙ ne-eqb (s + k) (most-qubits + s) (λ x. omega arith)
+          go k (yes l) (yes p) (no q) = at k l ∙ no-row s (s + k) (omega arith) (omega arith)
+          go k (yes l) (no p) q =
+              let u : s + k ≡ s = omega arith in
+              at k l ∙ ap (odds w n s) u ∙ anticommute-self n (letter-at w s)
+          go k (no l) p q = bit-high (r + k) 64 a (m .small) (omega arith)
+
+  -- a word whose rows are all below row s, and one that has no rows
+  pub lower-word : (s g : ℕ) → g < s / 64 → Right s g
+  lower-word s g h t e l m = absurd (omega arith)
+
+  pub empty-word : (s g : ℕ) → n ≤ 64 * (g % 2) → Right s g
+  empty-word s g h t e l m = absurd (omega arith)

@@ -1,20 +1,21 @@
 -- The wrong pairs of a tableau, by which of its rows they are, and what is known of an accepted record. Assumes nothing.
-use mathlib.Core.Path.{_≡_, refl, _∙_, ap, subst}
+use mathlib.Core.Path.{_≡_, refl, ap, subst}
 use mathlib.Core.Bool.{Bool, true, false, true≢false}
 use mathlib.Core.List.{List}
 use Prim.Native.Nat.{ℕ, _+_, _≤_, _<_}
 use native.Mathlib.Decide.{decLt}
 use native.Mathlib.Omega.{arith}
 use lib.Dec.{eqb}
-use borrow.Author.Tests.{lt-ltb, le-ltb, eq-eqb, ne-eqb, eqb-true, eqb-false}
+use borrow.Author.Tests.{lt-ltb, le-ltb}
 use Rattle.answers.specs.First.{lowest}
 use Rattle.answers.specs.Verdict.{accepted}
 use Rattle.answers.proofs.First.{lowest-none}
 use Rattle.pauli.specs.Letters.{_⊕_}
 use Rattle.pauli.specs.Rows.{anticommute}
+use Rattle.limits.specs.Limits.{most-qubits}
 use Rattle.clifford.specs.Tableau.{Rows, Paired}
 use Rattle.records.specs.Reading.{Read, read-of, qubits-in, outcome-count, last-record, rows-in, is-some, numbered, wrong-pair}
-use Rattle.records.proofs.Pairs.{numbered-low, numbered-high, none-paired}
+use Rattle.records.proofs.Pairs.{none-paired}
 use Rattle.records.proofs.Taken.{taken}
 use Rattle.read_rows.specs.parts.Loading.{First}
 
@@ -27,30 +28,13 @@ cancel false false e = refl
 pub alone : (a b : Bool) → b ≡ false → a ≡ false → a ⊕ b ≡ false
 alone a b u v = rw (u, v)
 
-eqb-shift : (n i k : ℕ) → eqb (n + k) (n + i) ≡ eqb k i
-eqb-shift n i k = go (eqb k i) refl
-  where
-    go : (b : Bool) → eqb k i ≡ b → eqb (n + k) (n + i) ≡ b
-    go true e = eq-eqb (n + k) (n + i) (ap (λ (m : ℕ). n + m) (eqb-true k i e))
-    go false e = ne-eqb (n + k) (n + i) (λ u. eqb-false k i e (omega arith))
-
 module _ (n : ℕ) (t : Rows) where
   -- no row is below itself
   pub below : (i j : ℕ) → j ≤ i → wrong-pair n t i j ≡ false
   below i j h = rw (le-ltb i j h)
 
-  pair : (i j : ℕ) → i < j → wrong-pair n t i j ≡ anticommute n (numbered n t i .letters) (numbered n t j .letters) ⊕ eqb j (n + i)
+  pub pair : (i j : ℕ) → i < j → wrong-pair n t i j ≡ anticommute n (numbered n t i .letters) (numbered n t j .letters) ⊕ eqb j (n + i)
   pair i j h = rw (lt-ltb i j h)
-
-  -- two destabilizers, a destabilizer and a stabilizer, two stabilizers
-  pub pair-dd : (i j : ℕ) → i < j → j < n → wrong-pair n t i j ≡ anticommute n (t .destabilizer i .letters) (t .destabilizer j .letters) ⊕ false
-  pair-dd i j h l = pair i j h ∙ rw (numbered-low n t i (omega arith), numbered-low n t j l, ne-eqb j (n + i) (λ e. omega arith))
-
-  pub pair-ds : (i k : ℕ) → i < n → wrong-pair n t i (n + k) ≡ anticommute n (t .destabilizer i .letters) (t .stabilizer k .letters) ⊕ eqb k i
-  pair-ds i k h = pair i (n + k) (omega arith) ∙ rw (numbered-low n t i h, numbered-high n t k, eqb-shift n i k)
-
-  pub pair-ss : (p k : ℕ) → p < k → k < n → wrong-pair n t (n + p) (n + k) ≡ anticommute n (t .stabilizer p .letters) (t .stabilizer k .letters) ⊕ false
-  pair-ss p k h l = pair (n + p) (n + k) (omega arith) ∙ rw (numbered-high n t p, numbered-high n t k, ne-eqb (n + k) (n + (n + p)) (λ e. omega arith))
 
   -- row i is the lower row of a wrong pair
   abbrev pub lower-wrong : ℕ → Bool
@@ -67,14 +51,14 @@ module _ (n : ℕ) (t : Rows) where
       go k (yes l) = b k l
       go k (no l) = last-right k (omega arith)
 
--- the rows of an accepted record are properly paired, and 64 at the most
+-- the rows of an accepted record are properly paired, and no more than there may be
 module _ (s : List ℕ) (r : Read) (e : read-of s ≡ accepted r) where
   pub accepted-paired : Paired (r .qubits) (r .rows)
   accepted-paired =
       let t = taken s r e in
       subst (λ (q : Read). Paired (q .qubits) (q .rows)) (t .is) (none-paired (qubits-in s) (rows-in (qubits-in s) (outcome-count s) (last-record s)) (t .pairs))
 
-  pub accepted-most : r .qubits ≤ 64
+  pub accepted-most : r .qubits ≤ most-qubits
   accepted-most =
       let t = taken s r e in
-      subst (λ (q : Read). q .qubits ≤ 64) (t .is) (t .ending .most)
+      subst (λ (q : Read). q .qubits ≤ most-qubits) (t .is) (t .ending .most)

@@ -61,9 +61,9 @@ pub fn ends(bytes: &[u8]) -> bool
     let marked = (bytes[at + 10] == 0x53) & (bytes[at + 11] == 0x52);
     marked
         & (1 <= n)
-        & (n <= 64)
+        & (n <= limits::MOST_QUBITS)
         & (near == 12 + 2 * (n * (n + 1)))
         & (near <= far)
-        & (far <= near + 4096)
+        & (far <= near + limits::MOST_OPERATIONS)
         & (far <= bytes.len())
 }

@@ -81,6 +81,11 @@ module _ (s : List ℕ) (r : Read) (e : read-of s ≡ accepted r) where
   pub read-writes : Bytes s → last-record s ≡ record-with (r .qubits) (r .marks) (r .rows)
   read-writes bytes = again s (told .ending) (told .fits) bytes ∙ ap (λ x. record-with (x .qubits) (x .marks) (x .rows)) (told .is)
 
+  pub read-inside : r .size ≤ length s
+  read-inside =
+      let size : second-distance s ≡ r .size = second-is s (told .ending) (told .fits) ∙ ap (λ x. x .size) (told .is) in
+      omega (arith, size, told .ending .within)
+
   pub read-whole : Bytes s → s ≡ take (length s - r .size) s ++ record-with (r .qubits) (r .marks) (r .rows)
   unfolding last-record
   read-whole bytes =

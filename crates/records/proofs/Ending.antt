@@ -7,7 +7,7 @@ use native.Mathlib.Omega.{arith}
 use lib.Dec.{leb, eqb}
 use lib.ListN.{length, getD, length-drop}
 use borrow.Author.Tests.{leb-true, le-leb, eqb-true, eq-eqb}
-use Rattle.clifford.specs.Limits.{most-operations, most-qubits}
+use Rattle.limits.specs.Limits.{most-operations, most-qubits}
 use Rattle.answers.specs.Verdict.{unless}
 use Rattle.records.specs.Record.{to-rows}
 use Rattle.records.specs.Reading.{last-twelve, first-distance, second-distance, qubits-in, marked, ends-in-record, last-record, outcome-count, reading, read-of}

@@ -3,7 +3,7 @@ use mathlib.Core.Path.{_≡_}
 use mathlib.Core.List.{List}
 use Prim.Native.Nat.{ℕ, _≤_}
 use lib.ListN.{length}
-use Rattle.clifford.specs.Limits.{most-operations, most-qubits}
+use Rattle.limits.specs.Limits.{most-operations, most-qubits}
 use Rattle.pauli.specs.Letters.{I}
 use Rattle.pauli.specs.Rows.{Row}
 use Rattle.clifford.specs.Tableau.{Rows, blank, Paired}

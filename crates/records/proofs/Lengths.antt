@@ -10,7 +10,7 @@ use Rattle.pauli.specs.Rows.{Row}
 use Rattle.pauli.specs.Texts.{listed, row-text, letter-byte}
 use Rattle.pauli.proofs.Listed.{length-listed}
 use Rattle.clifford.specs.Tableau.{Rows}
-use Rattle.clifford.specs.Limits.{most-qubits, most-operations}
+use Rattle.limits.specs.Limits.{most-qubits, most-operations}
 use Rattle.records.specs.Record.{low-first, joined, rows-text, trailer, record-with, record-length, longest-record}
 
 pub length-low-first : (k v : ℕ) → length (low-first k v) ≡ k
@@ -46,13 +46,14 @@ length-record n marks t =
     length-append (marks ++ rows-text n t) (trailer n (length marks))
     ∙ omega (arith, length-append marks (rows-text n t), length-rows-text n t, length-trailer n (length marks))
 
--- the rows of one kind, of at most 64 qubits
-pub square-below : (n : ℕ) → n ≤ most-qubits → n * (n + 1) ≤ 4160
-square-below n h = mul-le-mul {n₁ = n} {m₁ = n + 1} {n₂ = 64} {m₂ = 65} h (omega arith)
+-- the rows of one kind, of at most m qubits
+pub square-below : (n : ℕ) {m : ℕ} → n ≤ m → n * (n + 1) ≤ m * (m + 1)
+square-below n {m} h = mul-le-mul {n₁ = n} {m₁ = n + 1} {n₂ = m} {m₂ = m + 1} h (omega arith)
 
--- no record is longer than the longest, and there is one of its length
+-- no record is longer than the longest
 pub record-within : (n count : ℕ) → n ≤ most-qubits → count ≤ most-operations → record-length n count ≤ longest-record
 record-within n count h k = omega (arith, square-below n h)
 
-pub longest-reached : record-length most-qubits most-operations ≡ longest-record
-longest-reached = refl
+-- the number that request i states
+pub longest-is : longest-record ≡ 37132
+longest-is = refl

@@ -10,7 +10,7 @@ use Rattle.answers.specs.Verdict.{Verdict, accepted, unless, unless-at}
 use Rattle.pauli.specs.Letters.{_⊕_}
 use Rattle.pauli.specs.Rows.{Row, anticommute}
 use Rattle.pauli.specs.Texts.{fits-at, spelled}
-use Rattle.clifford.specs.Limits.{most-qubits, most-operations}
+use Rattle.limits.specs.Limits.{most-qubits, most-operations}
 use Rattle.clifford.specs.Tableau.{Rows, blank}
 use Rattle.records.specs.Record.{to-rows}
 
@@ -35,7 +35,7 @@ qubits-in s = number-in (take 2 (drop 8 (last-twelve s)))
 abbrev pub marked : List ℕ → Bool
 marked s = eqb (getD (last-twelve s) 10 0) 0x53 && eqb (getD (last-twelve s) 11 0) 0x52
 
--- 9: fewer than 12 bytes; wrong mark; n not 1 to 64; first distance wrong; second less than the first, or more than 4,096 above it, or beyond the lent bytes
+-- 9: fewer than 12 bytes; wrong mark; n not 1 to 128; first distance wrong; second less than the first, or more than 4,096 above it, or beyond the lent bytes
 abbrev pub ends-in-record : List ℕ → Bool
 ends-in-record s =
     leb 12 (length s) && marked s && leb 1 (qubits-in s) && leb (qubits-in s) most-qubits

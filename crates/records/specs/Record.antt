@@ -5,6 +5,7 @@ use Prim.Native.Nat.{ℕ, zero, suc, _+_, _*_, _/_, _%_}
 use lib.Dec.{eqb}
 use lib.ListN.{length}
 use Rattle.pauli.specs.Texts.{listed, row-text}
+use Rattle.limits.specs.Limits.{most-qubits, most-operations}
 use Rattle.clifford.specs.Tableau.{Rows}
 use Rattle.clifford.specs.Measurement.{Outcome}
 
@@ -54,6 +55,6 @@ record-of n outcomes t = record-with n (map mark outcomes) t
 abbrev pub record-length : ℕ → ℕ → ℕ
 record-length n count = count + to-rows n
 
--- the longest record
+-- the longest record, of 37,132 bytes
 abbrev pub longest-record : ℕ
-longest-record = 12428
+longest-record = record-length most-qubits most-operations

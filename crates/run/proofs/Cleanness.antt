@@ -14,7 +14,7 @@ use Rattle.clifford.specs.Tableau.{Rows}
 use Rattle.clifford.specs.Measurement.{has-x, cleared, settled, collapsed}
 use Rattle.clifford.specs.Run.{coin}
 use Rattle.clifford.proofs.Keeping.{Keeps}
-use Rattle.tableau.proofs.Gated.{gate-blank}
+use Rattle.columns.proofs.Gates.{gate-blank}
 use Rattle.records.proofs.Held.{Tidy, Clean}
 
 new-beyond : (n : ℕ) (g : Gate) (r : Letters) (j : ℕ) → Fits n g → n ≤ j → r j ≡ I → new g r j ≡ I

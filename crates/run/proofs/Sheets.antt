@@ -7,17 +7,16 @@ use native.Mathlib.Omega.{arith}
 use lib.Dec.{leb}
 use lib.ListN.{length, take, drop, length-take, length-map}
 use borrow.Author.Tests.{le-leb, lt-leb}
+use Rattle.limits.specs.Limits.{most-qubits, most-operations}
 use Rattle.answers.specs.Verdict.{Verdict, accepted, refused, then, unless, over}
 use Rattle.clifford.specs.declared.Op.{Op}
-use Rattle.clifford.specs.Tableau.{Rows, start}
+use Rattle.clifford.specs.Tableau.{Rows}
 use Rattle.clifford.specs.Run.{State, run, begin}
 use Rattle.circuit.specs.Text.{Circuit, meaning, operations, count-measured}
 use Rattle.circuit.specs.Lines.{Found, found}
 use Rattle.checking.specs.parts.Promises.{counts, Headed, Accepts}
 use Rattle.checking.proofs.Meant.{lines-counted, parts}
 use Rattle.packing.specs.View.{rows-of}
-use Rattle.tableau.specs.declared.Tableau.{Tableau}
-use Rattle.tableau.specs.View.{rows}
 use Rattle.records.specs.Record.{mark, record-with, record-length}
 use Rattle.records.proofs.Lengths.{length-record}
 use Rattle.tally.specs.declared.Tally.{Tally}
@@ -26,26 +25,22 @@ use Rattle.walking.specs.parts.Walk.{lines-of, or-none, Ended, Stuck}
 use Rattle.run.specs.parts.Ran.{judgement, Sheeted}
 use Rattle.walking.proofs.Counting.{run-count, measured-few}
 
-pub start-rows : (t : Tableau) (n : ℕ) → t .n ≡ n → rows t ≡ start n → start n ≡ rows-of n (t .destabilizers) (t .stabilizers)
-unfolding rows
-start-rows t n e r = sym r ∙ ap (λ (m : ℕ). rows-of m (t .destabilizers) (t .stabilizers)) e
-
 -- as many characters as there are measurements
-pub ended-count : (text : List ℕ) (body n : ℕ) (coins d s marks : List ℕ) (t : Tally) → Ended text body n coins d s marks t → t .measured ≡ count-measured (lines-of n body text)
-ended-count text body n coins d s marks t e = omega (arith, e .view .count, run-count n 2 (lines-of n body text) (begin n coins) (e .state) (e .is))
+pub ended-count : (text : List ℕ) (body n : ℕ) (coins words marks : List ℕ) (t : Tally) → Ended text body n coins words marks t → t .measured ≡ count-measured (lines-of n body text)
+ended-count text body n coins words marks t e = omega (arith, e .view .count, run-count n 2 (lines-of n body text) (begin n coins) (e .state) (e .is))
 
-pub ended-room : (text : List ℕ) (body n : ℕ) (coins d s marks : List ℕ) (t : Tally) → Ended text body n coins d s marks t → length (take (t .measured) marks) ≡ t .measured
-ended-room text body n coins d s marks t e = ap length (sym (e .view .marks-are)) ∙ length-map-mark ∙ sym (e .view .count)
+pub ended-room : (text : List ℕ) (body n : ℕ) (coins words marks : List ℕ) (t : Tally) → Ended text body n coins words marks t → length (take (t .measured) marks) ≡ t .measured
+ended-room text body n coins words marks t e = ap length (sym (e .view .marks-are)) ∙ length-map-mark ∙ sym (e .view .count)
   where
     length-map-mark : length (map mark (e .state .outcomes)) ≡ length (e .state .outcomes)
     length-map-mark = length-map (e .state .outcomes) mark
 
 -- they fit the array, and the record fits the buffer
-pub ended-within : (text : List ℕ) (body n : ℕ) (coins d s marks : List ℕ) (t : Tally) → Ended text body n coins d s marks t → t .measured ≤ length marks
-ended-within text body n coins d s marks t e = omega (arith, ended-room text body n coins d s marks t e, length-take (t .measured) marks)
+pub ended-within : (text : List ℕ) (body n : ℕ) (coins words marks : List ℕ) (t : Tally) → Ended text body n coins words marks t → t .measured ≤ length marks
+ended-within text body n coins words marks t e = omega (arith, ended-room text body n coins words marks t e, length-take (t .measured) marks)
 
-pub ended-few : (text : List ℕ) (body n : ℕ) (coins d s marks : List ℕ) (t : Tally) → Ended text body n coins d s marks t → length (take (t .measured) marks) ≤ 4096
-ended-few text body n coins d s marks t e = omega (arith, ended-room text body n coins d s marks t e, ended-within text body n coins d s marks t e, e .view .room)
+pub ended-few : (text : List ℕ) (body n : ℕ) (coins words marks : List ℕ) (t : Tally) → Ended text body n coins words marks t → length (take (t .measured) marks) ≤ most-operations
+ended-few text body n coins words marks t e = omega (arith, ended-room text body n coins words marks t e, ended-within text body n coins words marks t e, e .view .room)
 
 -- the circuit was run to its end, and its record written
 pub record Played (text : List ℕ) (body n : ℕ) (coins old : List ℕ) (size : ℕ) (t : Tally) (new : List ℕ) : Type 0 where
@@ -56,10 +51,10 @@ pub record Played (text : List ℕ) (body n : ℕ) (coins old : List ℕ) (size 
   pub enough : t .taken ≤ length coins
   pub buffer : new ≡ over (sheet n coins state .bytes) old
 
-ended-played : (text : List ℕ) (body n : ℕ) (coins d s marks : List ℕ) (t : Tally) (old : List ℕ) (size : ℕ) (new : List ℕ) → Ended text body n coins d s marks t
-    → size ≡ record-length n (length (take (t .measured) marks)) → new ≡ over (record-with n (take (t .measured) marks) (rows-of n d s)) old
+ended-played : (text : List ℕ) (body n : ℕ) (coins words marks : List ℕ) (t : Tally) (old : List ℕ) (size : ℕ) (new : List ℕ) → Ended text body n coins words marks t
+    → size ≡ record-length n (length (take (t .measured) marks)) → new ≡ over (record-with n (take (t .measured) marks) (rows-of n words)) old
     → Played text body n coins old size t new
-ended-played text body n coins d s marks t old size new e z b =
+ended-played text body n coins words marks t old size new e z b =
     let m : map mark (e .state .outcomes) ≡ take (t .measured) marks = e .view .marks-are in
     record {
       state = e .state;
@@ -117,23 +112,23 @@ module _ (text : List ℕ) (n count measured body : ℕ) (a : Accepts text n cou
   judged-coin line room h = judged-met line room ∙ ap (λ (b : Bool). unless b 8 0 (refused 7 line)) (le-leb (record-length n measured) room h)
 
 -- the walk came to the end of a text with this line 1
-module _ (text : List ℕ) (body n : ℕ) (coins d s marks : List ℕ) (t : Tally) (h : Headed text n body) (e : Ended text body n coins d s marks t) where
+module _ (text : List ℕ) (body n : ℕ) (coins words marks : List ℕ) (t : Tally) (h : Headed text n body) (e : Ended text body n coins words marks t) where
   accepts : Accepts text n (length (lines-of n body text)) (t .measured) body
   accepts =
-      let k : t .measured ≡ count-measured (lines-of n body text) = ended-count text body n coins d s marks t e in
+      let k : t .measured ≡ count-measured (lines-of n body text) = ended-count text body n coins words marks t e in
       lines-counted text n body (h .stands) (length (lines-of n body text)) (t .measured) (h .some-qubits) (h .few-qubits)
       (rw k (sym (ap (λ (v : Verdict (List Op)). then v (λ ops. accepted (counts ops))) (e .lines))))
 
-  pub ended-size : (n ≤ 64) × (t .measured ≤ 4096)
-  ended-size = (h .few-qubits, omega (arith, ended-within text body n coins d s marks t e, e .view .room))
+  pub ended-size : (n ≤ most-qubits) × (t .measured ≤ most-operations)
+  ended-size = (h .few-qubits, omega (arith, ended-within text body n coins words marks t e, e .view .room))
 
   pub ended-no-room : (old : List ℕ) → length old < record-length n (t .measured) → run-of text coins (length old) ≡ refused 8 0
   ended-no-room old l = no-room text coins old n (length (lines-of n body text)) (t .measured) body accepts l
 
   pub ended-sheeted : (old : List ℕ) (size : ℕ) (new : List ℕ) → record-length n (t .measured) ≤ length old → size ≡ record-length n (length (take (t .measured) marks))
-      → new ≡ over (record-with n (take (t .measured) marks) (rows-of n d s)) old → Sheeted text coins old size t new
+      → new ≡ over (record-with n (take (t .measured) marks) (rows-of n words)) old → Sheeted text coins old size t new
   ended-sheeted old size new l z b =
-      sheeted text coins old n (length (lines-of n body text)) (t .measured) body accepts l size t new (ended-played text body n coins d s marks t old size new e z b)
+      sheeted text coins old n (length (lines-of n body text)) (t .measured) body accepts l size t new (ended-played text body n coins words marks t old size new e z b)
 
 -- it stopped before
 stuck-circuit : (text coins : List ℕ) (n body line : ℕ) → Headed text n body → Stuck text body n coins line → (c : Circuit) → meaning text ≡ accepted c → run-circuit c coins ≡ refused 7 line
@@ -143,7 +138,7 @@ stuck-circuit text coins n body line h k c m =
     let e : _≡_ {A = Found ℕ} (found n (drop body text)) (found (c .qubits) (p .rest)) = sym (h .stands .reads) ∙ p .header-is in
     let q : n ≡ c .qubits = cc in
     let r : drop body text ≡ p .rest = cc in
-    let l : operations n 4096 2 (drop body text) ≡ accepted (c .ops) = rw (q, r) (p .lines) in
+    let l : operations n most-operations 2 (drop body text) ≡ accepted (c .ops) = rw (q, r) (p .lines) in
     let o : lines-of n body text ≡ c .ops = ap or-none l in
     let s : run n 2 (lines-of n body text) (begin n coins) ≡ refused 7 line = k (l ∙ ap accepted (sym o)) in
     ap₂ (λ (m : ℕ) (ops : List Op). then (run m 2 ops (begin m coins)) (λ e. accepted (sheet m coins e))) (sym q) (sym o)
@@ -169,7 +164,7 @@ unfolding run-of
 not-read text coins old number place e =
     ap (λ (v : Verdict Circuit). then v (λ c. unless (leb (record-length (c .qubits) (count-measured (c .ops))) (length old)) 8 0 (run-circuit c coins))) e
 
-pub may-size : (text : List ℕ) (n count measured body : ℕ) → Accepts text n count measured body → (n ≤ 64) × (measured ≤ 4096)
+pub may-size : (text : List ℕ) (n count measured body : ℕ) → Accepts text n count measured body → (n ≤ most-qubits) × (measured ≤ most-operations)
 may-size text n count measured body a =
     let p = parts text (a .circuit) (a .meant) in
     (omega (arith, p .few-qubits, a .qubits-is), omega (arith, measured-few (a .circuit .ops), p .few-operations, a .measured-is))

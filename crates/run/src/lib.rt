@@ -9,7 +9,6 @@ ghost use Rattle.run.specs.parts.Ran.{judgement, RanAs};
 use answers::Refusal;
 use checking::Heading;
 use checking::Scanned;
-use tableau::Tableau;
 use tally::Tally;
 use walking::Walked;
 
@@ -43,17 +42,16 @@ fn play(text: &[u8], body: usize, n: usize, coins: &[u8], record: &mut [u8]) -> 
     requires { ⌜ Headed (now text) n body ⌝ }
     ensures { λ r. ⌜ RanAs (now (text .entry)) (now (coins .entry)) (now («record» .entry)) r (now («record» .exit)) ⌝ }
 {
-    let t = Tableau::start(n);
-    let mut d = t.destabilizers;
-    let mut s = t.stabilizers;
-    let mut marks = [0u8; 4096];
-    match walking::walk(text, body, &mut d, &mut s, &mut marks, n, coins) {
+    let mut words = [0u64; packing::WORDS];
+    start_rows::start(&mut words, n);
+    let mut marks = [0u8; limits::MOST_OPERATIONS];
+    match walking::walk(text, body, &mut words, &mut marks, n, coins) {
         Walked::Done(tally) => {
             let count = tally.measured;
             if record.len() < writing::record_size(n, count) {
                 return Ran::Refused(Refusal::NoRoom);
             }
-            let size = writing::put_record(record, &marks[..count], &d, &s, n);
+            let size = writing::put_record(record, &marks[..count], &words, n);
             Ran::Sheet(size, tally)
         }
         Walked::Stopped(line) => Ran::Refused(judged(text, line, record.len())),

@@ -1,14 +1,18 @@
 -- From what the library promises to what an exported function returns and answers. Assumes nothing.
 use mathlib.Core.Path.{_≡_, refl, sym, _∙_, ap}
 use mathlib.Core.List.{List, [], _∷_}
-use Prim.Native.Nat.{ℕ, _+_, _-_, _≤_}
+use Prim.Native.Nat.{ℕ, _-_, _≤_}
 use native.Mathlib.Omega.{arith}
-use lib.ListN.{length, getD, take, drop, length-drop}
-use lib.Seq.{length-take-le}
+use lib.ListN.{length, getD}
+use Rattle.packing.specs.parts.Changes.{four}
 use Rattle.answers.specs.declared.Written.{Written}
 use Rattle.answers.specs.Verdict.{Verdict, accepted, refused}
 use Rattle.answers.specs.Refusals.{told-written, Writes}
+use Rattle.answers.proofs.Numbered.{Refused-by}
 use Rattle.records.specs.Reading.{Read, read-of}
+use Rattle.records.proofs.Numbered.{By-reader, read-numbered}
+use Rattle.records.proofs.Again.{read-inside}
+use Rattle.reading.specs.Answer.{Hands, handed, in-numbers}
 use Rattle.run.specs.Run.{Sheet, run-of, numbers, rest-of, Runs}
 use Rattle.senghovai.specs.Exports.{number-of, run-places, ExportsRun, read-places, write-places, ExportsWritten}
 
@@ -41,12 +45,26 @@ ran circuit coins old answer rest new r = record {
     places (accepted s) = refl
     places (refused number place) = refl
 
--- a record that was found: where its outcomes start, and how many there are
-pub read-told : (s : List ℕ) (r : Read) (n start outcomes : ℕ) → accepted r ≡ read-of s → r .qubits ≡ n → r .size ≡ length s - start → length (r .marks) ≡ outcomes → start ≤ length s
-    → (0 ≡ number-of (read-of s)) × ((0 ∷ (length s - start) ∷ n ∷ start ∷ outcomes ∷ []) ≡ read-places s (read-of s))
-read-told s r n start outcomes e q z m h =
-    let k : length s - r .size ≡ start = omega (arith, z) in
-    (ap number-of e, (λ i. 0 ∷ sym z i ∷ sym q i ∷ sym k i ∷ sym m i ∷ []) ∙ ap (read-places s) e)
+-- a record that was read through what the caller lends, as the four numbers tell
+module _ (s part w four : List ℕ) (h : Hands s part w four) where
+  pub told-inside : getD four 2 0 ≤ length s
+  told-inside = go (read-of s) refl (h .answer)
+    where
+      go : (v : Verdict Read) → read-of s ≡ v → four ≡ in-numbers v → getD four 2 0 ≤ length s
+      go (accepted r) e a = let q : getD four 2 0 ≡ r .size = ap (λ l. getD l 2 0) a in omega (arith, q, read-inside s r e)
+      go (refused number place) e a = let q : getD four 2 0 ≡ 0 = ap (λ l. getD l 2 0) a in omega (arith, q)
 
-pub part-length : (s : List ℕ) (start outcomes : ℕ) → start + outcomes ≤ length s → length (take outcomes (drop start s)) ≡ outcomes
-part-length s start outcomes h = length-take-le outcomes (drop start s) (omega (arith, length-drop start s))
+  pub told-record : getD four 0 0 ≡ 0 → (0 ≡ number-of (read-of s)) × ((0 ∷ getD four 2 0 ∷ getD four 3 0 ∷ (length s - getD four 2 0) ∷ length part ∷ []) ≡ read-places s (read-of s))
+  told-record z = go (read-of s) (h .answer) (h .outcomes) (read-numbered s)
+    where
+      go : (v : Verdict Read) → four ≡ in-numbers v → part ≡ handed v .marks → Refused-by By-reader v
+          → (0 ≡ number-of v) × ((0 ∷ getD four 2 0 ∷ getD four 3 0 ∷ (length s - getD four 2 0) ∷ length part ∷ []) ≡ read-places s v)
+      go (accepted r) a p b = (refl, (λ i. 0 ∷ getD (a i) 2 0 ∷ getD (a i) 3 0 ∷ (length s - getD (a i) 2 0) ∷ length (p i) ∷ []))
+      go (refused number place) a p b = let q : number ≡ 0 = ap (λ l. getD l 0 0) (sym a) ∙ z in absurd (omega (arith, q, b .0))
+
+  pub told-refusal : (getD four 0 0 ≡ 0 → ⊥) → (getD four 0 0 ≡ number-of (read-of s)) × ((getD four 1 0 ∷ 0 ∷ 0 ∷ 0 ∷ 0 ∷ []) ≡ read-places s (read-of s))
+  told-refusal z = go (read-of s) (h .answer)
+    where
+      go : (v : Verdict Read) → four ≡ in-numbers v → (getD four 0 0 ≡ number-of v) × ((getD four 1 0 ∷ 0 ∷ 0 ∷ 0 ∷ 0 ∷ []) ≡ read-places s v)
+      go (accepted r) a = absurd (z (ap (λ l. getD l 0 0) a))
+      go (refused number place) a = (ap (λ l. getD l 0 0) a, (λ i. getD (a i) 1 0 ∷ 0 ∷ 0 ∷ 0 ∷ 0 ∷ []))

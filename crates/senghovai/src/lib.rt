@@ -11,7 +11,6 @@ ghost use Rattle.answers.specs.Refusals.{told-written};
 use answers::Written;
 use archive::Same;
 use checking::Checked;
-use reading::Last;
 
 #[no_mangle]
 pub extern "C" fn senghovai_check(circuit: &[u8], answer: &mut [u64; 3]) -> u64
@@ -55,25 +54,16 @@ pub extern "C" fn senghovai_run(
 pub extern "C" fn senghovai_read(bytes: &[u8], answer: &mut [u64; 5]) -> u64
     ensures { λ r. ⌜ (r ≡ number-of (read-of (now (bytes .entry)))) × (now (answer .exit) ≡ read-places (now (bytes .entry)) (read-of (now (bytes .entry)))) ⌝ }
 {
-    let sheet = library::read_sheet(bytes);
-    let found = sheet.found;
-    match found {
-        Last::Record { start, outcomes } => {
-            let size = bytes.len() - start;
-            *answer = [
-                0,
-                size as u64,
-                sheet.n as u64,
-                start as u64,
-                outcomes as u64,
-            ];
-            0
-        }
-        Last::Refused(r) => {
-            *answer = [answers::place(r) as u64, 0, 0, 0, 0];
-            answers::number(r)
-        }
+    let mut words = [0u64; packing::WORDS];
+    let mut four = [0u64; 4];
+    let outcomes = library::read(bytes, &mut words, &mut four);
+    if four[0] != 0 {
+        *answer = [four[1], 0, 0, 0, 0];
+        return four[0];
     }
+    let start = bytes.len() as u64 - four[2];
+    *answer = [0, four[2], four[3], start, outcomes.len() as u64];
+    0
 }
 
 // Place and length of a function that writes bytes.

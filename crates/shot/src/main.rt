@@ -7,10 +7,10 @@ use libc::STDOUT_FILENO;
 fn main() {
     let mut input = [0u8; 60001];
     let n = io::read_full(STDIN_FILENO, &mut input);
-    let mut out = [0u8; 78080];
+    let mut out = [0u8; limits::LONGEST_TEXT];
     match print::shot(&input[..n], &mut out) {
         Written::Bytes(size) => {
-            if size <= 78080 {
+            if size <= limits::LONGEST_TEXT {
                 io::write_all(STDOUT_FILENO, &out[..size]);
             }
         }

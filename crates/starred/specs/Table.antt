@@ -10,7 +10,7 @@ use Rattle.clifford.specs.declared.Gate.{Gate}
 use Rattle.clifford.specs.declared.Gate.the-variants.{One as one, Two as two}
 use Rattle.clifford.specs.Gates.{gate}
 use Rattle.product.specs.Product.{product-of}
-use Rattle.records.specs.Record.{trailer}
+use Rattle.records.specs.Record.{trailer, longest-record}
 use Rattle.run.specs.Run.{run-of}
 
 -- two rows are multiplied; a gate is applied to a row; a circuit is run with coins
@@ -23,7 +23,7 @@ pub data Asked : Type 0 where
 abbrev pub answered : Asked → Verdict (List ℕ)
 answered (rows-multiplied first second) = product-of first second
 answered (applied g n row) = accepted (row-text n (gate g (spelled row)))
-answered (ran circuit coins) = then (run-of circuit coins 12428) (λ s. accepted (s .bytes))
+answered (ran circuit coins) = then (run-of circuit coins longest-record) (λ s. accepted (s .bytes))
 
 -- an example: what is asked, and what must be answered
 pub record Example : Type 0 where

@@ -1,3 +1,1 @@
-pub mod Gated
-pub mod Starting
 pub mod Measuring

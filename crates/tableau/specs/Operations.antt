@@ -3,17 +3,17 @@ use mathlib.Core.Bool.{Bool}
 use mathlib.Core.Option.{Option, none, some}
 use mathlib.Core.Path.{_≡_}
 use Prim.Native.Nat.{ℕ}
-use Rattle.clifford.specs.declared.Gate.{Gate}
-use Rattle.clifford.specs.Tableau.{Rows, gated}
+use Rattle.clifford.specs.Tableau.{Rows}
 use Rattle.clifford.specs.Measurement.{random-row, Answer, random-answer, fixed-answer}
 use Rattle.tableau.specs.declared.Tableau.{Tableau}
 use Rattle.tableau.specs.declared.Measured.{Measured}
-use Rattle.tableau.specs.View.{rows}
+use Rattle.tableau.specs.View.{rows, Sized}
 
--- the gate g takes the tableau t to r
-pub record Applied (g : Gate) (t r : Tableau) : Type 0 where
-  pub size : r .n ≡ t .n
-  pub after : rows r ≡ gated g (rows t)
+-- the tableau r of n qubits has these rows
+pub record Becomes (n : ℕ) (t : Rows) (r : Tableau) : Type 0 where
+  pub size : r .n ≡ n
+  pub after : rows r ≡ t
+  pub sized : Sized r
 
 -- random where row p is found, and fixed otherwise
 abbrev pub answer-at : ℕ → ℕ → Bool → Rows → Option ℕ → Answer

@@ -1,18 +1,18 @@
-// The tableau of up to 64 qubits, packed by columns. Each operation takes a whole tableau and gives back a whole tableau: it lends
-// the two groups of rows to the functions that do the work.
+// The tableau as a struct by value. Each operation takes a whole tableau and gives back a whole tableau: it lends the words to the functions that do
+// the work.
 ghost use mathlib.Core.Path.{_≡_};
 ghost use Prim.Native.Nat.{_≤_, _<_};
+ghost use Rattle.limits.specs.Limits.{most-qubits};
 ghost use Rattle.clifford.specs.Gates.{Fits};
-ghost use Rattle.clifford.specs.Tableau.{start};
+ghost use Rattle.clifford.specs.Tableau.{start, gated};
 ghost use Rattle.tableau.specs.View.{rows, Sized};
-ghost use Rattle.tableau.specs.Operations.{Applied, measured, answer};
+ghost use Rattle.tableau.specs.Operations.{Becomes, measured, answer};
 use clifford::Gate;
-use columns::LowestRow;
+use random_row::LowestRow;
 
 pub struct Tableau {
     pub n: usize,
-    pub destabilizers: [u64; 129],
-    pub stabilizers: [u64; 129],
+    pub words: packing::Words,
 }
 
 // A measurement's answer: the tableau after it, whether it was random, and its value.
@@ -24,50 +24,34 @@ pub struct Measured {
 
 impl Tableau {
     pub fn start(n: usize) -> Self
-        requires { ⌜ (1 ≤ n) × (n ≤ 64) ⌝ }
-        ensures { λ r. ⌜ (r .n ≡ n) × (rows r ≡ start n) ⌝ }
+        requires { ⌜ (1 ≤ n) × (n ≤ most-qubits) ⌝ }
+        ensures { λ r. ⌜ Becomes n (start n) r ⌝ }
     {
-        let mut d = [0u64; 129];
-        let mut s = [0u64; 129];
-        let mut i: usize = 0;
-        while i < n {
-            d[i] = 1u64 << i;
-            s[64 + i] = 1u64 << i;
-            i += 1;
-        }
-        Tableau {
-            n,
-            destabilizers: d,
-            stabilizers: s,
-        }
+        let mut words = [0u64; packing::WORDS];
+        start_rows::start(&mut words, n);
+        Tableau { n, words }
     }
 
     pub fn gate(mut self, g: Gate) -> Self
         requires { ⌜ Sized self × Fits (self .n) g ⌝ }
-        ensures { λ r. ⌜ Applied g self r ⌝ }
+        ensures { λ r. ⌜ Becomes (self .n) (gated g (rows self)) r ⌝ }
     {
-        columns::gate(&mut self.destabilizers, g);
-        columns::gate(&mut self.stabilizers, g);
+        columns::gate(&mut self.words, g);
         self
     }
 
     // The coin counts only where the measurement is random.
     pub fn measure(self, a: usize, coin: bool) -> Measured
         requires { ⌜ Sized self × (a < self .n) ⌝ }
-        ensures { λ r. ⌜ (r .tableau .n ≡ self .n) × (answer r ≡ measured (self .n) a coin (rows self)) ⌝ }
+        ensures { λ r. ⌜ (r .tableau .n ≡ self .n) × Sized (r .tableau) × (answer r ≡ measured (self .n) a coin (rows self)) ⌝ }
     {
         let n = self.n;
-        let mut d = self.destabilizers;
-        let mut s = self.stabilizers;
-        let found = columns::random_row(&s, n, a);
+        let mut w = self.words;
+        let found = random_row::random_row(&w, n, a);
         match found {
             LowestRow::At(p) => {
-                measure_random::collapse(&mut d, &mut s, n, a, p, coin);
-                let tableau = Tableau {
-                    n,
-                    destabilizers: d,
-                    stabilizers: s,
-                };
+                measure_random::collapse(&mut w, n, a, p, coin);
+                let tableau = Tableau { n, words: w };
                 Measured {
                     tableau,
                     random: true,
@@ -75,7 +59,7 @@ impl Tableau {
                 }
             }
             LowestRow::Nothing => {
-                let value = measure_fixed::fixed_value(&d, &s, n, a);
+                let value = measure_fixed::fixed_value(&w, n, a);
                 Measured {
                     tableau: self,
                     random: false,

@@ -2,6 +2,7 @@
 // `stepped_numbers` serves whoever has numbers and no reference.
 ghost use mathlib.Core.Path.{_≡_};
 ghost use Prim.Native.Nat.{_+_, _<_};
+ghost use Rattle.limits.specs.Limits.{most-operations};
 ghost use Rattle.tally.specs.Tally.{one-if};
 ghost use Rattle.tally.specs.parts.Stepping.{stepped};
 
@@ -14,14 +15,14 @@ pub struct Tally {
 
 // One more where it counts.
 fn more(count: usize, counts: bool) -> usize
-    requires { ⌜ count < 4096 ⌝ }
+    requires { ⌜ count < most-operations ⌝ }
     ensures { λ r. ⌜ r ≡ count + one-if counts ⌝ }
 {
     if counts { count + 1 } else { count }
 }
 
 fn next(measured: usize, drawn: usize, taken: usize, random: bool) -> Tally
-    requires { ⌜ (measured < 4096) × (drawn < 4096) × (taken < 4096) ⌝ }
+    requires { ⌜ (measured < most-operations) × (drawn < most-operations) × (taken < most-operations) ⌝ }
     ensures { λ r. ⌜ r ≡ stepped random (record { measured = measured; random = drawn; taken = taken }) ⌝ }
 {
     Tally {
@@ -33,7 +34,7 @@ fn next(measured: usize, drawn: usize, taken: usize, random: bool) -> Tally
 
 // The struct is taken apart, its counters are stepped, and the struct of the new ones takes its place.
 pub fn step_lent(tally: &mut Tally, random: bool)
-    requires { ⌜ (now tally .measured < 4096) × (now tally .random < 4096) × (now tally .taken < 4096) ⌝ }
+    requires { ⌜ (now tally .measured < most-operations) × (now tally .random < most-operations) × (now tally .taken < most-operations) ⌝ }
     ensures { λ _. ⌜ now (tally .exit) ≡ stepped random (now (tally .entry)) ⌝ }
 {
     *tally = next(tally.measured, tally.random, tally.taken, random);
@@ -41,7 +42,7 @@ pub fn step_lent(tally: &mut Tally, random: bool)
 
 // The struct stands in a local and is lent, so that no reference to it is in the contract and a caller's proof has no walk.
 pub fn stepped_numbers(measured: usize, drawn: usize, taken: usize, random: bool) -> Tally
-    requires { ⌜ (measured < 4096) × (drawn < 4096) × (taken < 4096) ⌝ }
+    requires { ⌜ (measured < most-operations) × (drawn < most-operations) × (taken < most-operations) ⌝ }
     ensures { λ r. ⌜ r ≡ stepped random (record { measured = measured; random = drawn; taken = taken }) ⌝ }
 {
     let mut tally = Tally {

@@ -1,17 +1,19 @@
 // What the programs behind `./senghovai` share: opening a file that a word names, reading a circuit or the tail of an archive, saying a refusal, and writing a
 // record to a file. Files are read whole or by their tail into buffers of fixed size, so that an archive may have any size.
 ghost use mathlib.Core.Path.{_≡_};
+ghost use Prim.Native.Nat.{_+_, _*_};
 ghost use lib.ListN.{length};
+ghost use Rattle.limits.specs.Limits.{most-qubits, most-operations};
 ghost use Rattle.io.specs.Counts.{Counts};
 use answers::Refusal;
 use libc::STDERR_FILENO;
 use libc::STDOUT_FILENO;
 
 // Room for the longest record.
-pub fn tail_buffer() -> [u8; 12428]
-    ensures { λ r. ⌜ 12428 ≡ length r ⌝ }
+pub fn tail_buffer() -> [u8; limits::LONGEST_RECORD]
+    ensures { λ r. ⌜ most-operations + 2 * most-qubits * (1 + most-qubits) + 12 ≡ length r ⌝ }
 {
-    [0; 12428]
+    [0; limits::LONGEST_RECORD]
 }
 
 // One byte more than the longest circuit file that is read.
@@ -29,10 +31,10 @@ pub fn coin_buffer() -> [u8; 65537]
 }
 
 // Room for the longest text that a run prints.
-pub fn print_buffer() -> [u8; 78080]
-    ensures { λ r. ⌜ 78080 ≡ length r ⌝ }
+pub fn print_buffer() -> [u8; limits::LONGEST_TEXT]
+    ensures { λ r. ⌜ 18 * most-operations + 2 * most-qubits * (2 + most-qubits) ≡ length r ⌝ }
 {
-    [0; 78080]
+    [0; limits::LONGEST_TEXT]
 }
 
 pub fn complain(text: &[u8]) {
@@ -85,11 +87,11 @@ pub fn fill(fd: i32, buf: &mut [u8]) -> usize
     n
 }
 
-// The same for the last 12,428 bytes of a file, or all of it where there are fewer.
+// The same for as many bytes at a file's end as the longest record has, or all of it where there are fewer.
 pub fn fill_tail(fd: i32, buf: &mut [u8]) -> usize
     ensures { λ r. ⌜ Counts r (now (buf .exit)) ⌝ }
 {
-    if libc::lseek(fd, -12428, libc::SEEK_END) < 0 {
+    if libc::lseek(fd, -(limits::LONGEST_RECORD as i64), libc::SEEK_END) < 0 {
         libc::lseek(fd, 0, libc::SEEK_SET);
     }
     fill(fd, buf)

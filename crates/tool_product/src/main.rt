@@ -2,7 +2,7 @@
 use answers::Written;
 
 fn multiply(first: &[u8], second: &[u8]) {
-    let mut out = [0u8; 65];
+    let mut out = [0u8; limits::LONGEST_ROW];
     match library::product(first, second, &mut out) {
         Written::Bytes(size) => {
             let n = tool::within(size, &out);

@@ -3,7 +3,7 @@
 use answers::Written;
 
 // Appends the record, which the sheet's first bytes are, to the archive.
-fn keep(sheet: &[u8; 12428], size: usize) -> bool {
+fn keep(sheet: &[u8; limits::LONGEST_RECORD], size: usize) -> bool {
     let bytes: &[u8] = sheet;
     let n = tool::within(size, bytes);
     tool::append(3, &bytes[..n])

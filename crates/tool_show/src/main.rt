@@ -43,17 +43,16 @@ fn last_rows(bytes: &[u8], size: usize, outcomes: usize, width: usize)
 }
 
 fn show(bytes: &[u8]) {
-    let mut destabilizers = [0u64; 129];
-    let mut stabilizers = [0u64; 129];
+    let mut words = [0u64; packing::WORDS];
     let mut answer = [0u64; 4];
-    let outcomes = library::read(bytes, &mut destabilizers, &mut stabilizers, &mut answer);
+    let outcomes = library::read(bytes, &mut words, &mut answer);
     if answer[0] != 0 {
         tool::say_refused(answer[0], answer[1]);
         return;
     }
     tool::say(outcomes);
     tool::say(b"\n");
-    if answer[3] < 65 {
+    if answer[3] as usize <= limits::MOST_QUBITS {
         last_rows(
             bytes,
             answer[2] as usize,

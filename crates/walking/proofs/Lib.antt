@@ -1,3 +1,4 @@
+pub mod Applying
 pub mod Shots
 pub mod Counting
 pub mod Views

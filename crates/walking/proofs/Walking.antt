@@ -5,7 +5,7 @@ use Prim.Native.Nat.{ℕ, suc, _+_, _-_, _≤_, _<_}
 use native.Mathlib.Numerals.{add-one}
 use native.Mathlib.Omega.{arith}
 use lib.ListN.{length, drop}
-use Rattle.clifford.specs.Limits.{most-operations}
+use Rattle.limits.specs.Limits.{most-qubits, most-operations}
 use Rattle.answers.specs.Verdict.{Verdict, accepted, refused, then}
 use Rattle.clifford.specs.declared.Op.{Op}
 use Rattle.clifford.specs.Run.{State, run, begin}
@@ -22,15 +22,15 @@ use Rattle.walking.proofs.Counting.{step-count}
 use Rattle.walking.proofs.Views.{view-begin}
 
 -- the operations done so far, the state they led to, and that what the text is worth depends on the lines from here on
-pub record Walking (text : List ℕ) (body n : ℕ) (coins d s marks : List ℕ) (t : Tally) (at line : ℕ) : Type 0 where
+pub record Walking (text : List ℕ) (body n : ℕ) (coins words marks : List ℕ) (t : Tally) (at line : ℕ) : Type 0 where
   pub state : State
   pub done : List Op
   pub room : ℕ
   pub left : operations n most-operations 2 (drop body text) ≡ then (operations n room line (drop at text)) (λ ops. accepted (done ++ ops))
   pub so-far : (ops : List Op) → run n 2 (done ++ ops) (begin n coins) ≡ run n line ops state
-  pub view : View n coins state d s marks t
+  pub view : View n coins state words marks t
   pub count : t .measured + 2 ≤ line
-  pub lines : line + room ≡ 4098
+  pub lines : line + room ≡ most-operations + 2
 
 then-none : {A : Type 0} (v : Verdict A) → v ≡ then v (λ a. accepted a)
 then-none (accepted a) = refl
@@ -41,30 +41,29 @@ one-more [] op ops = refl
 one-more (o ∷ done) op ops = ap (_∷_ o) (one-more done op ops)
 
 module _ (text : List ℕ) (body n : ℕ) (coins : List ℕ) where
-  pub walk-begin : (d s marks : List ℕ) → Walkable n d s marks → Walking text body n coins d s marks none-yet body 2
-  walk-begin d s marks w = record {
+  pub walk-begin : (words marks : List ℕ) → Walkable n words marks → Walking text body n coins words marks none-yet body 2
+  walk-begin words marks w = record {
     state = begin n coins;
     done = [];
     room = most-operations;
     left = then-none (operations n most-operations 2 (drop body text));
     so-far = λ ops. refl;
-    view = view-begin n coins d s marks (w .d-words) (w .s-words) (w .room) (w .from-start);
+    view = view-begin n coins words marks (w .holds) (w .room) (w .from-start);
     count = omega arith;
     lines = omega arith;
   }
 
-  module _ (d s marks : List ℕ) (t : Tally) (at line : ℕ) (w : Walking text body n coins d s marks t at line) where
+  module _ (words marks : List ℕ) (t : Tally) (at line : ℕ) (w : Walking text body n coins words marks t at line) where
     -- the counters have room
-    pub walk-room : n ≤ 64 → (line ≡ 4098 → ⊥) → Room n coins d s marks t
+    pub walk-room : n ≤ most-qubits → (line ≡ most-operations + 2 → ⊥) → Room n coins words marks t
     walk-room h l =
         let m = tally-tied n 2 (w .done ++ []) coins (w .state) (w .so-far []) in
-        let c : t .measured < 4096 = omega (arith, w .count, w .lines) in
+        let c : t .measured < most-operations = omega (arith, w .count, w .lines) in
         let r : t .random ≡ randoms (w .state .outcomes) = ap (λ (u : Tally). u .random) (w .view .tally-is) in
         let p : t .taken ≡ randoms (w .state .outcomes) = ap (λ (u : Tally). u .taken) (w .view .tally-is) ∙ sym (m .random-taken) in
         record {
           qubits = h;
-          d-words = w .view .d-words;
-          s-words = w .view .s-words;
+          holds = w .view .holds;
           marks-room = w .view .room;
           measured = c;
           random = omega (arith, c, r, w .view .count, randoms-within (w .state .outcomes));
@@ -73,8 +72,8 @@ module _ (text : List ℕ) (body n : ℕ) (coins : List ℕ) where
         }
 
     -- one line further
-    pub walk-on : at < length text → (line ≡ 4098 → ⊥) → (next : ℕ) (d′ s′ marks′ : List ℕ) (t′ : Tally) → Goes text at n coins d s marks t next d′ s′ marks′ t′ → Walking text body n coins d′ s′ marks′ t′ next (line + 1)
-    walk-on l f next d′ s′ marks′ t′ g =
+    pub walk-on : at < length text → (line ≡ most-operations + 2 → ⊥) → (next : ℕ) (words′ marks′ : List ℕ) (t′ : Tally) → Goes text at n coins words marks t next words′ marks′ t′ → Walking text body n coins words′ marks′ t′ next (line + 1)
+    walk-on l f next words′ marks′ t′ g =
         let e = g .goes line (w .state) (w .view) in
         let op = g .op in
         let room = w .room - 1 in
@@ -109,7 +108,7 @@ module _ (text : List ℕ) (body n : ℕ) (coins : List ℕ) where
         let q = then-accepted (operations n (w .room) line (drop at text)) (λ more. accepted (w .done ++ more)) ops (sym (w .left) ∙ a) in
         record { more = q .value; left-is = q .first; ops-are = (let z = q .later in cc) }
 
-    pub walk-dry : at < length text → Stops text at n coins d s marks t → Stuck text body n coins line
+    pub walk-dry : at < length text → Stops text at n coins words marks t → Stuck text body n coins line
     walk-dry l g a =
         let r = rest (lines-of n body text) a in
         let q = next-at n (w .room) line text at (r .more) (r .left-is) (g .op) (g .next) l (g .stands) in
@@ -121,13 +120,13 @@ module _ (text : List ℕ) (body n : ℕ) (coins : List ℕ) where
         let r = rest (lines-of n body text) a in
         absurd (g l (w .room) line (r .more) (r .left-is))
 
-    pub walk-full : at < length text → 4098 ≤ line → Stuck text body n coins line
+    pub walk-full : at < length text → most-operations + 2 ≤ line → Stuck text body n coins line
     walk-full l f a =
         let r = rest (lines-of n body text) a in
         let q = next-line n (w .room) line (drop at text) (r .more) (r .left-is) (rw (front text at l)) in
         absurd (omega (arith, q .room-is, w .lines))
 
-    pub walk-end : length text ≤ at → Ended text body n coins d s marks t
+    pub walk-end : length text ≤ at → Ended text body n coins words marks t
     walk-end l =
         let z : operations n (w .room) line (drop at text) ≡ accepted [] = operations-end n (w .room) line (drop at text) (rw (past text at l)) in
         let a : operations n most-operations 2 (drop body text) ≡ accepted (w .done ++ []) = w .left ∙ ap (λ (v : Verdict (List Op)). then v (λ ops. accepted (w .done ++ ops))) z in

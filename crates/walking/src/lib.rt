@@ -5,11 +5,13 @@ ghost use Prim.Native.Nat.{_≤_, _<_};
 ghost use lib.ListN.{length, drop};
 ghost use Rattle.clifford.specs.Run.{Valid};
 ghost use Rattle.quick_lines.specs.parts.Coded.{following, op-in, name-in};
-ghost use Rattle.packing.specs.View.{Words, rows-of};
+ghost use Rattle.limits.specs.Limits.{most-qubits};
+ghost use Rattle.packing.specs.View.{Words, rows-of, Holds};
 ghost use Rattle.records.specs.Record.{mark-of};
 ghost use Rattle.walking.specs.parts.Walk.{flipped, ShotAs, Room, MeasureAs, Applies, StepAs, Walkable, WalkAs};
 use clifford::One;
-use columns::LowestRow;
+use packing::Words;
+use random_row::LowestRow;
 use tally::Tally;
 
 // What a measurement answers: its value, or that it is random and finds no coin.
@@ -20,33 +22,24 @@ enum Shot {
 }
 
 // X on a, where it is to be applied.
-fn flip(d: &mut [u64; 129], s: &mut [u64; 129], n: usize, a: usize, applies: bool)
-    requires { ⌜ Words (now d) × Words (now s) × (n ≤ 64) × (a < n) ⌝ }
-    ensures { λ _. ⌜ Words (now (d .exit)) × Words (now (s .exit)) × (rows-of n (now (d .exit)) (now (s .exit)) ≡ flipped a applies (rows-of n (now (d .entry)) (now (s .entry)))) ⌝ }
+fn flip(words: &mut Words, n: usize, a: usize, applies: bool)
+    requires { ⌜ Holds n (now words) × (n ≤ most-qubits) × (a < n) ⌝ }
+    ensures { λ _. ⌜ Holds n (now (words .exit)) × (rows-of n (now (words .exit)) ≡ flipped a applies (rows-of n (now (words .entry)))) ⌝ }
 {
     if applies {
         let x = clifford::letter(One::PauliX) as usize;
-        columns::one(d, x, a);
-        columns::one(s, x, a);
+        columns::one(words, x, a);
     }
 }
 
-fn shoot(
-    d: &mut [u64; 129],
-    s: &mut [u64; 129],
-    n: usize,
-    reset: bool,
-    a: usize,
-    coins: &[u8],
-    used: usize,
-) -> Shot
-    requires { ⌜ Words (now d) × Words (now s) × (n ≤ 64) × (a < n) × (used ≤ length (now coins)) ⌝ }
-    ensures { λ r. ⌜ Words (now (d .exit)) × Words (now (s .exit)) × ShotAs n (following reset) a (rows-of n (now (d .entry)) (now (s .entry))) (drop used (now (coins .entry))) r (rows-of n (now (d .exit)) (now (s .exit))) ⌝ }
+fn shoot(words: &mut Words, n: usize, reset: bool, a: usize, coins: &[u8], used: usize) -> Shot
+    requires { ⌜ Holds n (now words) × (n ≤ most-qubits) × (a < n) × (used ≤ length (now coins)) ⌝ }
+    ensures { λ r. ⌜ Holds n (now (words .exit)) × ShotAs n (following reset) a (rows-of n (now (words .entry))) (drop used (now (coins .entry))) r (rows-of n (now (words .exit))) ⌝ }
 {
-    match columns::random_row(s, n, a) {
+    match random_row::random_row(words, n, a) {
         LowestRow::Nothing => {
-            let outcome = measure_fixed::fixed_value(d, s, n, a);
-            flip(d, s, n, a, reset & outcome);
+            let outcome = measure_fixed::fixed_value(words, n, a);
+            flip(words, n, a, reset & outcome);
             Shot::Fixed(outcome)
         }
         LowestRow::At(p) => {
@@ -54,8 +47,8 @@ fn shoot(
                 return Shot::NoCoin;
             }
             let coin = coins[used] % 2 == 1;
-            measure_random::collapse(d, s, n, a, p, coin);
-            flip(d, s, n, a, reset & coin);
+            measure_random::collapse(words, n, a, p, coin);
+            flip(words, n, a, reset & coin);
             Shot::Random(coin)
         }
     }
@@ -80,9 +73,8 @@ enum Step {
 }
 
 fn measure(
-    d: &mut [u64; 129],
-    s: &mut [u64; 129],
-    marks: &mut [u8; 4096],
+    words: &mut Words,
+    marks: &mut [u8; limits::MOST_OPERATIONS],
     n: usize,
     reset: bool,
     a: usize,
@@ -90,12 +82,12 @@ fn measure(
     tally: Tally,
     next: usize,
 ) -> Step
-    requires { ⌜ Room n (now coins) (now d) (now s) (now marks) tally × (a < n) ⌝ }
-    ensures { λ r. ⌜ MeasureAs n (following reset) a (now (coins .entry)) (now (d .entry)) (now (s .entry)) (now (marks .entry)) tally next r (now (d .exit)) (now (s .exit)) (now (marks .exit)) ⌝ }
+    requires { ⌜ Room n (now coins) (now words) (now marks) tally × (a < n) ⌝ }
+    ensures { λ r. ⌜ MeasureAs n (following reset) a (now (coins .entry)) (now (words .entry)) (now (marks .entry)) tally next r (now (words .exit)) (now (marks .exit)) ⌝ }
 {
     let at = tally.measured;
     let used = tally.taken;
-    match shoot(d, s, n, reset, a, coins, used) {
+    match shoot(words, n, reset, a, coins, used) {
         Shot::Fixed(value) => {
             marks[at] = mark(false, value);
             Step::Next(next, tally::stepped_numbers(at, tally.random, used, false))
@@ -108,40 +100,32 @@ fn measure(
     }
 }
 
-// The gate of this number, on both groups.
-fn apply(d: &mut [u64; 129], s: &mut [u64; 129], code: usize)
-    requires { ⌜ Words (now d) × Words (now s) × Valid 64 (op-in code) × (name-in code ≡ 77 → ⊥) ⌝ }
-    ensures { λ _. ⌜ Applies code (now (d .entry)) (now (s .entry)) (now (d .exit)) (now (s .exit)) ⌝ }
+// The gate of this number.
+fn apply(words: &mut Words, code: usize)
+    requires { ⌜ Words (now words) × Valid most-qubits (op-in code) × (name-in code ≡ 77 → ⊥) ⌝ }
+    ensures { λ _. ⌜ Applies code (now (words .entry)) (now (words .exit)) ⌝ }
 {
     let name = quick_lines::code::name(code);
     let a = quick_lines::code::first(code);
     let b = quick_lines::code::second(code);
-    if name == 1 {
-        columns::cx(d, a, b);
-        columns::cx(s, a, b);
+    if (name == 1) | (name == 2) {
+        columns::two(words, name == 1, a, b);
         return;
     }
-    if name == 2 {
-        columns::cz(d, a, b);
-        columns::cz(s, a, b);
-        return;
-    }
-    columns::one(d, name, a);
-    columns::one(s, name, a);
+    columns::one(words, name, a);
 }
 
 fn turn(
     text: &[u8],
     at: usize,
-    d: &mut [u64; 129],
-    s: &mut [u64; 129],
-    marks: &mut [u8; 4096],
+    words: &mut Words,
+    marks: &mut [u8; limits::MOST_OPERATIONS],
     n: usize,
     coins: &[u8],
     tally: Tally,
 ) -> Step
-    requires { ⌜ Room n (now coins) (now d) (now s) (now marks) tally ⌝ }
-    ensures { λ r. ⌜ StepAs (now (text .entry)) at n (now (coins .entry)) (now (d .entry)) (now (s .entry)) (now (marks .entry)) tally r (now (d .exit)) (now (s .exit)) (now (marks .exit)) ⌝ }
+    requires { ⌜ Room n (now coins) (now words) (now marks) tally ⌝ }
+    ensures { λ r. ⌜ StepAs (now (text .entry)) at n (now (coins .entry)) (now (words .entry)) (now (marks .entry)) tally r (now (words .exit)) (now (marks .exit)) ⌝ }
 {
     let code = quick_lines::op_at(text, at, n);
     if code == 0 {
@@ -151,9 +135,9 @@ fn turn(
     if quick_lines::code::name(code) == 77 {
         let reset = quick_lines::code::resets(code);
         let a = quick_lines::code::first(code);
-        return measure(d, s, marks, n, reset, a, coins, tally, next);
+        return measure(words, marks, n, reset, a, coins, tally, next);
     }
-    apply(d, s, code);
+    apply(words, code);
     Step::Next(next, tally)
 }
 
@@ -166,14 +150,13 @@ pub enum Walked {
 pub fn walk(
     text: &[u8],
     body: usize,
-    d: &mut [u64; 129],
-    s: &mut [u64; 129],
-    marks: &mut [u8; 4096],
+    words: &mut Words,
+    marks: &mut [u8; limits::MOST_OPERATIONS],
     n: usize,
     coins: &[u8],
 ) -> Walked
-    requires { ⌜ Walkable n (now d) (now s) (now marks) ⌝ }
-    ensures { λ r. ⌜ WalkAs (now (text .entry)) body n (now (coins .entry)) r (now (d .exit)) (now (s .exit)) (now (marks .exit)) ⌝ }
+    requires { ⌜ Walkable n (now words) (now marks) ⌝ }
+    ensures { λ r. ⌜ WalkAs (now (text .entry)) body n (now (coins .entry)) r (now (words .exit)) (now (marks .exit)) ⌝ }
 {
     let mut tally = Tally {
         measured: 0,
@@ -183,10 +166,10 @@ pub fn walk(
     let mut at = body;
     let mut line: usize = 2;
     while at < text.len() {
-        if line == 4098 {
+        if line == limits::MOST_OPERATIONS + 2 {
             return Walked::Stopped(line);
         }
-        match turn(text, at, d, s, marks, n, coins, tally) {
+        match turn(text, at, words, marks, n, coins, tally) {
             Step::Next(next, stepped) => {
                 at = next;
                 tally = stepped;

@@ -1,20 +1,21 @@
 -- Planes made byte by byte out of words, and the test of one bit of a byte. Assumes nothing.
-use mathlib.Core.Path.{_≡_, refl, sym, _∙_, ap, ap₂}
+use mathlib.Core.Path.{_≡_, refl, sym, _∙_, ap}
 use mathlib.Core.Bool.{Bool, true, false, _&&_}
 use mathlib.Core.List.{List}
-use Prim.Native.Nat.{ℕ, zero, suc, _+_, _-_, _*_, _/_, _%_, _^_, _<_}
+use Prim.Native.Nat.{ℕ, zero, suc, _+_, _-_, _*_, _/_, _%_, _^_, _≤_, _<_}
 use native.Mathlib.Decide.{decLt}
 use native.Mathlib.Nat.{mod-lt, zero-lt-suc, mod-eq-of-lt, one-mul, zero-mul}
 use native.Mathlib.Omega.{arith}
 use lib.Bits.{bitAnd, and-mask, and-high}
 use lib.Dec.{eqb}
-use lib.ListN.{length, getD, set}
+use lib.ListN.{length, getD, set, length-set}
 use lib.Pow.{pow-pos, pow-lt, pow-add, shr-shr}
 use lib.Seq.{getD-set-same, getD-set-other}
 use borrow.Author.Tests.{eq-eqb, ne-eqb}
 use Rattle.words.specs.Bit.{bit}
 use Rattle.words.proofs.BitLaws.{bit-and, bit-ones}
-use Rattle.writing.specs.parts.Planes.{Plane-of}
+use Rattle.limits.specs.Limits.{most-qubits}
+use Rattle.writing.specs.parts.Planes.{byte-place, plane-size, byte-of, Filled, plane-bit, Plane-of}
 
 -- ---- bits of a byte of a word
 
@@ -31,33 +32,52 @@ shifted-bit k s v = ap (λ (q : ℕ). eqb (q % 2) 1) (shr-shr v s k)
 
 -- ---- a plane
 
--- the byte at u of the plane of the words from this one on
-abbrev pub byte-of : List ℕ → ℕ → ℕ → ℕ
-byte-of w from u = getD w (from + u % 64) 0 / 2 ^ (8 * (u / 64)) % 256
+-- besides, the first r bytes of the next qubit are there
+pub record Filling (w : List ℕ) (slot n r : ℕ) (p : List ℕ) : Type 0 where
+  pub filled : Filled w slot n p
+  pub next : (q : ℕ) → q < r → getD p (byte-place q n) 0 ≡ byte-of w slot q n
 
--- the first t bytes are there
-abbrev pub Made : List ℕ → ℕ → List ℕ → ℕ → Type 0
-Made w from p t = (u : ℕ) → u < t → getD p u 0 ≡ byte-of w from u
+pub filled-none : (w : List ℕ) (slot : ℕ) (p : List ℕ) → length p ≡ plane-size → Filled w slot 0 p
+filled-none w slot p e = record { size = e; bytes = λ r j h l. absurd (omega arith) }
 
-module _ (w : List ℕ) (from : ℕ) (p : List ℕ) where
-  pub made-more : (t v : ℕ) → t < length p → Made w from p t → v ≡ byte-of w from t → Made w from (set p t v) (t + 1)
-  made-more t v l m is u h = go (decLt u t)
+module _ (w : List ℕ) (slot n : ℕ) (p : List ℕ) where
+  pub filling-none : Filled w slot n p → Filling w slot n 0 p
+  filling-none f = record { filled = f; next = λ q h. absurd (omega arith) }
+
+  pub filling-more : (r v : ℕ) → n < most-qubits → r < 8 → Filling w slot n r p → v ≡ byte-of w slot r n → Filling w slot n (r + 1) (set p (byte-place r n) v)
+  filling-more r v most rl f e = record {
+    filled = record {
+      size = simp length-set (f .filled .size);
+      bytes = λ q j ql jl. getD-set-other p (byte-place r n) (byte-place q j) v 0 (omega arith) ∙ f .filled .bytes q j ql jl;
+    };
+    next = λ q h. go q h (decLt q r);
+  }
     where
-      go : Dec (u < t) → getD (set p t v) u 0 ≡ byte-of w from u
-      go (yes k) = getD-set-other p t u v 0 (λ e. omega arith) ∙ m u k
-      go (no k) =
-          let e : u ≡ t = omega arith in
-          rw e (getD-set-same p t v 0 l ∙ is)
+      go : (q : ℕ) → q < r + 1 → Dec (q < r) → getD (set p (byte-place r n) v) (byte-place q n) 0 ≡ byte-of w slot q n
+      go q h (yes l) = getD-set-other p (byte-place r n) (byte-place q n) v 0 (omega arith) ∙ f .next q l
+      go q h (no l) =
+          let k : q ≡ r = omega arith in
+          rw k (getD-set-same p (byte-place r n) v 0 (omega (arith, f .filled .size)) ∙ e)
 
-  pub made-all : Made w from p 512 → Plane-of w from p
-  made-all m i j h l =
-      let word = getD w (from + j) 0 in
-      let u = 64 * (i / 8) + j in
-      let a : u % 64 ≡ j = omega arith in
-      let b : u / 64 ≡ i / 8 = omega arith in
-      let c : 8 * (i / 8) + i % 8 ≡ i = omega arith in
-      ap (bit (i % 8)) (m u (omega arith)) ∙ ap₂ (λ (x y : ℕ). bit (i % 8) (getD w (from + x) 0 / 2 ^ (8 * y) % 256)) a b
-      ∙ low-bit (i % 8) (word / 2 ^ (8 * (i / 8))) (omega arith) ∙ shifted-bit (i % 8) (8 * (i / 8)) word ∙ ap (λ (k : ℕ). bit k word) c
+  pub filling-all : (r : ℕ) → 8 ≤ r → Filling w slot n r p → Filled w slot (n + 1) p
+  filling-all r all f = record { size = f .filled .size; bytes = λ q j ql jl. go q j ql jl (decLt j n) }
+    where
+      go : (q j : ℕ) → q < 8 → j < n + 1 → Dec (j < n) → getD p (byte-place q j) 0 ≡ byte-of w slot q j
+      go q j ql jl (yes l) = f .filled .bytes q j ql l
+      go q j ql jl (no l) =
+          let k : j ≡ n = omega arith in
+          rw k (f .next q (omega arith))
+
+  -- a plane whose bytes are there
+  pub plane-made : Filled w slot n p → Plane-of w slot n p
+  plane-made f = record { bits = row }
+    where
+      row : (i j : ℕ) → i < 64 → j < n → plane-bit p i j ≡ bit i (getD w (8 * j + slot) 0)
+      row i j h l =
+          let word = getD w (8 * j + slot) 0 in
+          let c : 8 * (i / 8) + i % 8 ≡ i = omega arith in
+          ap (bit (i % 8)) (f .bytes (i / 8) j (omega arith) l) ∙ low-bit (i % 8) (word / 2 ^ (8 * (i / 8))) (omega arith) ∙ shifted-bit (i % 8) (8 * (i / 8)) word
+          ∙ ap (λ (m : ℕ). bit m word) c
 
 -- ---- the test of a bit
 

@@ -1,24 +1,23 @@
--- The texts that the parts of the writer put: a row letter by letter out of planes, a group row by row. Assumes nothing.
+-- The texts that the parts of the writer put: a row letter by letter out of planes, and row behind row. Assumes nothing.
 use mathlib.Core.Path.{_≡_, refl, sym, _∙_, ap, ap₂}
-use mathlib.Core.Bool.{Bool, cond}
+use mathlib.Core.Bool.{Bool}
 use mathlib.Core.List.{List, [], _∷_, _++_}
-use Prim.Native.Nat.{ℕ, _+_, _*_, _≤_, _<_}
-use native.Mathlib.Nat.{mul-le-mul-right, suc-mul, zero-add}
+use Prim.Native.Nat.{ℕ, _+_, _*_, _/_, _%_, _≤_, _<_}
+use native.Mathlib.Nat.{add-assoc, add-mul, mul-le-mul-right}
 use native.Mathlib.Numerals.{add-one}
 use native.Mathlib.Omega.{arith}
-use lib.Dec.{ltb}
 use lib.ListN.{length, getD, set}
-use borrow.Author.Tests.{lt-ltb}
-use Rattle.pauli.specs.Letters.{I, letter}
+use Rattle.pauli.specs.Letters.{letter}
 use Rattle.pauli.specs.Texts.{sign-byte, letter-byte, listed, row-text}
 use Rattle.words.specs.Bit.{bit}
 use Rattle.pauli.proofs.Listed.{length-listed, listed-ext}
-use Rattle.packing.specs.View.{letter-at, row-at, group-rows}
+use Rattle.packing.specs.View.{sign-words, bit-at, letter-at, row-at, rows-from}
+use Rattle.packing.proofs.Views.{guard, guard-in, rows-in}
 use Rattle.records.specs.Record.{joined}
-use Rattle.records.proofs.Joined.{listed-more, joined-more}
+use Rattle.records.proofs.Joined.{listed-more, listed-split, joined-append, joined-more}
 use Rattle.records.proofs.Lengths.{length-row-text, length-joined}
-use Rattle.writing.specs.parts.Placed.{placed, group-text}
-use Rattle.writing.specs.parts.Planes.{plane-bit, Plane-of, plane-letter, plane-row}
+use Rattle.writing.specs.parts.Placed.{placed, texts-from}
+use Rattle.writing.specs.parts.Planes.{Plane-of, plane-letter, plane-row}
 use Rattle.writing.proofs.Placing.{set-placed, then-placed}
 
 -- ---- one more letter
@@ -50,37 +49,62 @@ module _ (xs zs : List ℕ) (i : ℕ) where
 
 -- ---- one more row
 
--- a row that the planes of a group hold is the group's
-module _ (w xs zs : List ℕ) (px : Plane-of w 0 xs) (pz : Plane-of w 64 zs) (n i : ℕ) (most : n ≤ 64) (h : i < 64) where
-  same-letter : (j : ℕ) → j < n → letter-byte (plane-letter xs zs i j) ≡ letter-byte (cond (ltb j n) (letter-at w i j) I)
+-- the row that planes hold of a word is the row of the words
+module _ (w xs zs : List ℕ) (g n : ℕ) (px : Plane-of w g n xs) (pz : Plane-of w (4 + g) n zs) (i : ℕ) (h : i < 64) where
+  -- bit i of word g from o on
+  in-word : (o m : ℕ) → o + g ≡ m → bit i (getD w m 0) ≡ bit-at w o (64 * g + i)
+  in-word o m e =
+      let a : i ≡ (64 * g + i) % 64 = omega arith in
+      let b : m ≡ o + (64 * g + i) / 64 = omega arith in
+      ap₂ (λ (p q : ℕ). bit p (getD w q 0)) a b
+
+  same-letter : (j : ℕ) → j < n → letter-byte (plane-letter xs zs i j) ≡ letter-byte (guard n (letter-at w (64 * g + i)) j)
   same-letter j l =
-      let x : plane-bit xs i j ≡ bit i (getD w j 0) = px i j h (omega arith) ∙ ap (λ (k : ℕ). bit i (getD w k 0)) (zero-add j) in
-      rw (lt-ltb j n l) (ap₂ (λ (a b : Bool). letter-byte (letter a b)) x (pz i j h (omega arith)))
+      ap₂ (λ (a b : Bool). letter-byte (letter a b)) (px .bits i j h l ∙ in-word (8 * j) (8 * j + g) refl) (pz .bits i j h l ∙ in-word (8 * j + 4) (8 * j + (4 + g)) (omega arith))
+      ∙ ap letter-byte (sym (guard-in n (letter-at w (64 * g + i)) j l))
 
-  pub group-row : (old new : List ℕ) (at : ℕ) → new ≡ placed old at (row-text n (plane-row xs zs (getD w 128 0) i)) → new ≡ placed old at (row-text n (row-at n w i))
+  pub plane-placed : (old new : List ℕ) (at : ℕ) → new ≡ placed old at (row-text n (plane-row xs zs (getD w (sign-words + g) 0) i)) → new ≡ placed old at (row-text n (row-at n w (64 * g + i)))
   unfolding row-at
-  group-row old new at e = e ∙ ap (λ t. placed old at (sign-byte (bit i (getD w 128 0)) ∷ t)) (listed-ext _ _ n same-letter)
+  plane-placed old new at e =
+      e ∙ ap₂ (λ (b : Bool) (t : List ℕ). placed old at (sign-byte b ∷ t)) (in-word sign-words (sign-words + g) refl) (listed-ext _ _ n same-letter)
 
-module _ (n : ℕ) (w : List ℕ) where
-  pub group-text-none : group-text n w 0 ≡ []
-  unfolding group-text joined listed
-  group-text-none = refl
+module _ (n : ℕ) (w : List ℕ) (s : ℕ) where
+  abbrev one-text : ℕ → List ℕ
+  one-text i = row-text n (row-at n w (s + i))
 
-  pub group-text-more : (k : ℕ) → k < n → group-text n w k ++ row-text n (row-at n w k) ≡ group-text n w (k + 1)
-  unfolding group-text group-rows
-  group-text-more k h =
-      let e : group-rows n w k ≡ row-at n w k = rw (lt-ltb k n h) in
-      ap (λ r. joined (listed (λ i. row-text n (group-rows n w i)) k) ++ row-text n r) (sym e)
-      ∙ sym (joined-more (listed (λ i. row-text n (group-rows n w i)) k) (row-text n (group-rows n w k)))
-      ∙ ap joined (sym (listed-more (λ i. row-text n (group-rows n w i)) k) ∙ ap (listed (λ i. row-text n (group-rows n w i))) (sym (add-one k)))
+  pub texts-none : texts-from n w s 0 ≡ []
+  unfolding texts-from joined listed
+  texts-none = refl
 
-  pub length-group-text : (k : ℕ) → length (group-text n w k) ≡ k * (n + 1)
-  unfolding group-text
-  length-group-text k = length-joined (λ i. row-text n (group-rows n w i)) (n + 1) k (λ i. length-row-text n (group-rows n w i))
+  pub texts-more : (k : ℕ) → texts-from n w s k ++ one-text k ≡ texts-from n w s (k + 1)
+  unfolding texts-from
+  texts-more k = sym (joined-more (listed one-text k) (one-text k)) ∙ ap joined (sym (listed-more one-text k) ∙ ap (listed one-text) (sym (add-one k)))
 
--- a row more begins where the one before ends, and ends within the group
-pub row-begins : (i m : ℕ) → (i + 1) * m ≡ i * m + m
-row-begins i m = rw add-one (suc-mul i m)
+  -- rows behind rows
+  pub texts-split : (a b : ℕ) → texts-from n w s a ++ texts-from n w (s + a) b ≡ texts-from n w s (a + b)
+  unfolding texts-from
+  texts-split a b =
+      ap (λ (l : List (List ℕ)). texts-from n w s a ++ joined l) (listed-ext _ _ b (λ i l. ap (λ (k : ℕ). row-text n (row-at n w k)) (add-assoc s a i)))
+      ∙ sym (joined-append (listed one-text a) (listed (λ i. one-text (a + i)) b)) ∙ ap joined (sym (listed-split one-text a b))
 
-pub row-ends : (i n : ℕ) → i < n → i * (n + 1) + (n + 1) ≤ n * (n + 1)
-row-ends i n h = omega (arith, suc-mul i (n + 1), mul-le-mul-right (n + 1) h)
+  pub length-texts : (k : ℕ) → length (texts-from n w s k) ≡ k * (n + 1)
+  unfolding texts-from
+  length-texts k = length-joined one-text (n + 1) k (λ i. length-row-text n (row-at n w (s + i)))
+
+  -- all rows of a kind
+  pub texts-all : texts-from n w s n ≡ joined (listed (λ i. row-text n (rows-from n s w i)) n)
+  unfolding texts-from
+  texts-all = ap joined (listed-ext _ _ n (λ i l. ap (row-text n) (sym (rows-in n s w i l))))
+
+-- a rows and then b rows, of m bytes each, among n
+pub rows-end : (a b n m : ℕ) → a + b ≤ n → a * m + b * m ≤ n * m
+rows-end a b n m h = omega (arith, add-mul a b m, mul-le-mul-right m h)
+
+-- rows that are placed where the rows before them end
+pub then-texts : (n : ℕ) (w old new last : List ℕ) (at s a t b p : ℕ) → new ≡ placed old at (texts-from n w s a) → last ≡ placed new p (texts-from n w t b)
+    → t ≡ s + a → p ≡ at + a * (n + 1) → p + b * (n + 1) ≤ length old → last ≡ placed old at (texts-from n w s (a + b))
+then-texts n w old new last at s a t b p e f begins follows room =
+    let la = length-texts n w s a in
+    let lb = length-texts n w t b in
+    then-placed old new at (texts-from n w s a) e last p (texts-from n w t b) f (omega arith) (omega arith)
+    ∙ ap (λ (k : ℕ). placed old at (texts-from n w s a ++ texts-from n w k b)) begins ∙ ap (placed old at) (texts-split n w s a b)

@@ -6,7 +6,7 @@ use crate::circuit;
 use crate::measure;
 use crate::record;
 use crate::refusal::Refusal;
-use crate::row::Row;
+use crate::row::{Row, LONGEST_TEXT};
 
 #[derive(Clone, PartialEq, Eq, Debug)]
 pub struct Answer {
@@ -103,7 +103,7 @@ pub fn copy(bytes: &[u8], out: Vec<u8>) -> Answer {
 }
 
 fn try_product(first: &[u8], second: &[u8], lent: usize) -> Result<Vec<u8>, Refusal> {
-    if first.len() != second.len() || first.len() < 2 || first.len() > 65 {
+    if first.len() != second.len() || first.len() < 2 || first.len() > LONGEST_TEXT {
         return Err(Refusal::at(13, 0));
     }
     let first_row = Row::from_text(first).map_err(|place| Refusal::at(10, place))?;

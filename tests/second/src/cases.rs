@@ -1,5 +1,5 @@
 //! The random cases: a mix of all six functions over the material of
-//! `make` and `damage`. The same seed gives the same cases.
+//! `make`, `seam` and `damage`. The same seed gives the same cases.
 
 use crate::circuit;
 use crate::damage;
@@ -7,6 +7,8 @@ use crate::make;
 use crate::protocol::Case;
 use crate::random::Random;
 use crate::record;
+use crate::row::LONGEST_TEXT;
+use crate::seam::{self, SEAM};
 
 /// The length of a lent buffer: one byte too short, exactly long enough,
 /// longer, or any.
@@ -25,6 +27,8 @@ fn some_circuit(random: &mut Random, damaged: usize) -> Vec<u8> {
     let n = make::qubits(random);
     if random.chance(damaged) {
         damage::circuit(random, n)
+    } else if n > SEAM && random.chance(50) {
+        seam::circuit(random, n)
     } else {
         make::circuit(random, n)
     }
@@ -51,7 +55,7 @@ fn run(random: &mut Random) -> Case {
 }
 
 fn some_record(random: &mut Random, damaged: usize) -> Vec<u8> {
-    let n = make::qubits(random);
+    let n = make::record_qubits(random);
     if random.chance(damaged) {
         let mut bytes = Vec::new();
         if random.chance(20) {
@@ -87,13 +91,14 @@ fn row_text(random: &mut Random, length: usize, damaged: usize) -> Vec<u8> {
 
 fn product(random: &mut Random) -> Case {
     let length = if random.chance(20) {
-        *random.one_of(&[0, 1, 2, 64, 65, 66, 67])
+        let most = LONGEST_TEXT;
+        *random.one_of(&[0, 1, 2, SEAM, SEAM + 1, SEAM + 2, most - 1, most, most + 1, most + 2])
     } else {
-        random.between(2, 65)
+        random.between(2, LONGEST_TEXT)
     };
     let damaged = if random.chance(20) { 60 } else { 0 };
     let first = row_text(random, length, damaged);
-    let unequal = if random.chance(8) { random.between(0, 67) } else { length };
+    let unequal = if random.chance(8) { random.between(0, LONGEST_TEXT + 2) } else { length };
     let mut second = row_text(random, unequal, damaged);
     if random.chance(15) {
         second = first.clone();
@@ -103,7 +108,7 @@ fn product(random: &mut Random) -> Case {
 }
 
 fn same(random: &mut Random) -> Case {
-    let n = make::qubits(random);
+    let n = make::record_qubits(random);
     let (outcomes, tableau) = make::finished(random, n);
     let mut other = tableau.clone();
     let first = record::write(&outcomes, &tableau);

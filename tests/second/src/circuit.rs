@@ -1,11 +1,11 @@
 //! The circuit text: its lines, their words and numbers, and the refusals 1
 //! to 6 in the order document 01 gives. The ninth operation, `MR a`, is that
-//! of document 02, request b.
+//! of document 02, request b, and the most qubits are those of request i.
 
 use crate::refusal::Refusal;
 
 pub const MOST_OPERATIONS: usize = 4096;
-pub const MOST_QUBITS: usize = 64;
+pub const MOST_QUBITS: usize = 128;
 
 #[derive(Clone, Copy, PartialEq, Eq, Debug)]
 pub enum Operation {
@@ -110,13 +110,15 @@ fn written(line: &Line) -> Option<Operation> {
     }
 }
 
-/// The qubits an operation names.
-fn qubits(operation: Operation) -> Vec<usize> {
-    match operation {
-        Operation::H(a) | Operation::S(a) => vec![a],
-        Operation::X(a) | Operation::Y(a) | Operation::Z(a) => vec![a],
-        Operation::CX(a, b) | Operation::CZ(a, b) => vec![a, b],
-        Operation::M(a) | Operation::MR(a) => vec![a],
+impl Operation {
+    /// The qubits the operation names.
+    pub fn qubits(self) -> Vec<usize> {
+        match self {
+            Operation::H(a) | Operation::S(a) => vec![a],
+            Operation::X(a) | Operation::Y(a) | Operation::Z(a) => vec![a],
+            Operation::CX(a, b) | Operation::CZ(a, b) => vec![a, b],
+            Operation::M(a) | Operation::MR(a) => vec![a],
+        }
     }
 }
 
@@ -133,7 +135,7 @@ fn operation(line: &Line, n: usize, place: usize) -> Result<Operation, Refusal> 
     let Some(operation) = written(line) else {
         return Err(Refusal::at(3, place));
     };
-    let named = qubits(operation);
+    let named = operation.qubits();
     if named.iter().any(|qubit| *qubit >= n) {
         return Err(Refusal::at(4, place));
     }

@@ -1,14 +1,17 @@
 //! What a list of cases covers: how often each function was called, each
 //! refusal number answered, each operation run, each kind of measurement met,
-//! of M and of MR, and each of n = 1, 63, 64 accepted; how often a qubit was
-//! measured again after an MR; and how often two rows were multiplied whose
-//! powers of i sum to less than zero, where a remainder with a sign would go
-//! wrong. Says what is lacking.
+//! of M and of MR, and each of the sizes that must come accepted; how often a
+//! qubit was measured again after an MR; how often two rows were multiplied
+//! whose powers of i sum to less than zero, where a remainder with a sign
+//! would go wrong; and how often, on more than 64 qubits, an answer hung on
+//! what `seam` names. Says what is lacking.
 
 use crate::answers::Answer;
 use crate::circuit::{self, measured, Operation};
 use crate::protocol::Case;
+use crate::record;
 use crate::row::Row;
+use crate::seam::{self, BEYOND, SEAM, SIZES};
 use crate::tableau::Tableau;
 use std::collections::{BTreeMap, BTreeSet};
 
@@ -19,7 +22,6 @@ const MEASURED: [&str; 4] = ["M fixed 0", "M fixed 1", "M random 0", "M random 1
 const RESET: [&str; 4] = ["MR fixed 0", "MR fixed 1", "MR random 0", "MR random 1"];
 const AGAIN: [&str; 2] = ["M after MR", "MR after MR"];
 const SUMS: [&str; 2] = ["below zero", "below zero and a minus"];
-const SIZES: [&str; 3] = ["n = 1", "n = 63", "n = 64"];
 
 #[derive(Default)]
 pub struct Coverage {
@@ -42,6 +44,10 @@ fn name(operation: Operation) -> &'static str {
     }
 }
 
+fn size(n: usize) -> String {
+    format!("n = {n}")
+}
+
 impl Coverage {
     fn add(&mut self, what: &str, count: u64) {
         *self.seen.entry(what.to_string()).or_default() += count;
@@ -52,18 +58,24 @@ impl Coverage {
         self.cases += 1;
         self.add(case.name(), 1);
         *self.refusals.entry(answer.number).or_default() += 1;
-        if answer.number != 0 {
-            return;
-        }
         match case {
+            Case::Read(bytes) if answer.number == 11 => self.count_pair(bytes, &answer),
+            _ if answer.number != 0 => {}
             Case::Run(text, ..) => self.count_run(text, &answer),
             Case::Product(first, second, _) => {
                 if let (Ok(one), Ok(two)) = (Row::from_text(first), Row::from_text(second)) {
-                    self.count_sum(one.power_sum(&two));
+                    self.count_sum(&one, &two);
                 }
             }
-            Case::Read(_) => self.add(&format!("n = {}", answer.places[2]), 1),
+            Case::Read(_) => self.add(&size(answer.places[2] as usize), 1),
             _ => {}
+        }
+    }
+
+    fn count_pair(&mut self, bytes: &[u8], answer: &Answer) {
+        let wide = record::trailer(bytes).is_some_and(|(n, _, _)| n > SEAM);
+        if wide && answer.places[0] >= SEAM as u64 {
+            self.add(BEYOND[1], 1);
         }
     }
 
@@ -71,7 +83,7 @@ impl Coverage {
         let (Ok(circuit), Some(record)) = (circuit::parse(text), &answer.buffer) else {
             return;
         };
-        self.add(&format!("n = {}", circuit.n), 1);
+        self.add(&size(circuit.n), 1);
         self.count_again(&circuit.operations);
         let mut tableau = Tableau::start(circuit.n);
         let mut outcomes = record.iter();
@@ -110,16 +122,23 @@ impl Coverage {
         let value = kind % 2 == 1;
         let kinds = if operation == Operation::MR(a) { RESET } else { MEASURED };
         self.add(kinds[kind], 1);
+        for kind in seam::kinds(&tableau, a) {
+            self.add(kind, 1);
+        }
         if let Some(p) = tableau.random_row(a) {
             for row in tableau.multiplied(a, p) {
-                self.count_sum(tableau.rows[row].power_sum(&tableau.rows[p]));
+                self.count_sum(&tableau.rows[row], &tableau.rows[p]);
             }
             tableau = tableau.collapse(a, p, value);
         }
         tableau.reset(operation, value)
     }
 
-    fn count_sum(&mut self, sum: i32) {
+    fn count_sum(&mut self, one: &Row, two: &Row) {
+        let sum = one.power_sum(two);
+        if seam::power_beyond(one, two) {
+            self.add(BEYOND[0], 1);
+        }
         if sum < 0 {
             self.add(SUMS[0], 1);
         }
@@ -144,6 +163,18 @@ impl Coverage {
         line + "\n"
     }
 
+    /// What has to come at least `LEAST` times.
+    fn often() -> [(&'static str, &'static [&'static str]); 6] {
+        [
+            ("reset", &RESET),
+            ("again", &AGAIN),
+            ("power sums", &SUMS),
+            ("wide, random", &seam::RANDOM),
+            ("wide, fixed", &seam::FIXED),
+            ("wide", &BEYOND),
+        ]
+    }
+
     pub fn table(&self) -> String {
         let mut table = format!("cases         {}, accepted {}\n", self.cases, self.refused(0));
         table.push_str(&self.line("functions", &FUNCTIONS));
@@ -154,10 +185,11 @@ impl Coverage {
         table.push('\n');
         table.push_str(&self.line("operations", &RAN));
         table.push_str(&self.line("measured", &MEASURED));
-        table.push_str(&self.line("reset", &RESET));
-        table.push_str(&self.line("again", &AGAIN));
-        table.push_str(&self.line("power sums", &SUMS));
-        table.push_str(&self.line("sizes", &SIZES));
+        for (title, names) in Coverage::often() {
+            table.push_str(&self.line(title, names));
+        }
+        let sizes = SIZES.map(size);
+        table.push_str(&self.line("sizes", &sizes.each_ref().map(|name| name.as_str())));
         table
     }
 
@@ -168,19 +200,18 @@ impl Coverage {
                 lacking.push(format!("refusal {number}, {} times", self.refused(number)));
             }
         }
-        let often = [("power sums", &SUMS[..]), ("reset", &RESET), ("again", &AGAIN)];
-        for (title, names) in often {
+        for (title, names) in Coverage::often() {
             for name in names {
                 if self.times(name) < LEAST {
                     lacking.push(format!("{title} {name}, {} times", self.times(name)));
                 }
             }
         }
-        for names in [&FUNCTIONS[..], &RAN[..], &MEASURED[..], &SIZES[..]] {
-            for name in names {
-                if self.times(name) == 0 {
-                    lacking.push(format!("{name}, never"));
-                }
+        let sizes = SIZES.map(size);
+        let once = [&FUNCTIONS[..], &RAN, &MEASURED].concat();
+        for name in once.into_iter().chain(sizes.iter().map(|name| name.as_str())) {
+            if self.times(name) == 0 {
+                lacking.push(format!("{name}, never"));
             }
         }
         lacking

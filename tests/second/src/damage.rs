@@ -2,6 +2,7 @@
 //! first, a middle or the last place, and records with a bad trailer, a bad
 //! byte or rows that are not properly paired.
 
+use crate::circuit::MOST_QUBITS;
 use crate::letters::{Letter, ALL};
 use crate::make;
 use crate::random::Random;
@@ -13,7 +14,8 @@ pub const BAD_FIRST: [&str; 18] = [
     "Q 1000", "Q 0064", "Q 2 2", "QQ 2", "2", "H 0",
 ];
 
-pub const BAD_COUNT: [&str; 6] = ["Q 0", "Q 65", "Q 66", "Q 100", "Q 128", "Q 999"];
+pub const BAD_COUNT: [usize; 6] =
+    [0, MOST_QUBITS + 1, MOST_QUBITS + 2, MOST_QUBITS + 100, 2 * MOST_QUBITS, 999];
 
 pub const MALFORMED: [&str; 44] = [
     "", " ", "H", "H ", "H  0", "H 0 ", " H 0", "h 0", "H 00", "H 0 0", "H 1000", "H +0", "H -0",
@@ -51,7 +53,7 @@ fn some_place(random: &mut Random, count: usize) -> usize {
 
 /// A line refused with 4 or with 5, or with both to choose from.
 fn bad_qubit(random: &mut Random, n: usize) -> String {
-    let far = *random.one_of(&[n, n + 1, 64, 99, 100, 999]).max(&n);
+    let far = *random.one_of(&[n, n + 1, MOST_QUBITS, 99, 100, 999]).max(&n);
     let near = random.below(n);
     match random.below(9) {
         0 => format!("H {far}"),
@@ -87,7 +89,7 @@ pub fn circuit(random: &mut Random, n: usize) -> Vec<u8> {
     let operations = lines.len() - 1;
     match random.below(12) {
         0 => lines[0] = random.one_of(&BAD_FIRST).as_bytes().to_vec(),
-        1 => lines[0] = random.one_of(&BAD_COUNT).as_bytes().to_vec(),
+        1 => lines[0] = format!("Q {}", random.one_of(&BAD_COUNT)).into_bytes(),
         2 => {
             let mut text = join(&lines);
             text.pop();

@@ -1,50 +1,74 @@
-//! The fixed sweeps over sizes: records and runs of every n from 1 to 64,
-//! circuits of 4,096 and 4,097 operations, records with the most outcomes,
-//! buffers around the needed length, and runs that lack a coin early, midway
-//! and at the end, or before a line that is refused.
+//! The fixed sweeps over sizes: records and runs of every n from 1 to the
+//! most, circuits of 4,096 and 4,097 operations, records with the most
+//! outcomes and with a qubit too many, buffers around the needed length, and
+//! runs that lack a coin early, midway and at the end, or before a line that
+//! is refused.
 
-use crate::circuit::{measured, Operation, MOST_OPERATIONS};
+use crate::circuit::{measured, Operation, MOST_OPERATIONS, MOST_QUBITS};
 use crate::damage;
 use crate::make;
 use crate::protocol::Case;
 use crate::random::Random;
 use crate::record;
+use crate::seam::{SEAM, SIZES};
 use crate::tableau::Tableau;
 use std::io;
 
 type Write<'a> = &'a mut dyn FnMut(Case) -> io::Result<()>;
+
+/// Up to so many qubits every sort of case is made of every n.
+const SHORT: usize = 24;
 
 pub fn all(write: Write) -> io::Result<()> {
     every_n(write)?;
     most_operations(write)?;
     too_many_operations(write)?;
     most_outcomes(write)?;
+    too_wide(write)?;
     distances(write)?;
     long_archive(write)?;
     lacking_coins(write)?;
     refused_without_coins(write)
 }
 
+/// A run and a record of every n, and more of those that are short or at an
+/// end or at the seam.
 fn every_n(write: Write) -> io::Result<()> {
-    let mut random = Random::new(64);
-    for n in 1..=64 {
-        let operations = make::operations(&mut random, n, 8 * n + 8, 20);
-        let text = make::text(n, &operations);
-        let outcomes = operations.iter().filter_map(|operation| measured(*operation)).count();
-        let needed = record::distance_to_rows(n) + outcomes;
-        let coins = random.bytes(outcomes + 1);
-        for lent in [needed - 1, needed, needed + 3] {
-            write(Case::Run(text.clone(), coins.clone(), lent))?;
-        }
-        let (outcomes, mut tableau) = make::finished(&mut random, n);
-        let plain = record::write(&outcomes, &tableau);
-        make::shuffle(&mut random, &mut tableau);
-        let shuffled = record::write(&outcomes, &tableau);
+    let mut random = Random::new(MOST_QUBITS as u64);
+    for n in 1..=MOST_QUBITS {
+        let more = n <= SHORT || SIZES.contains(&n);
+        runs_of(write, &mut random, n, more)?;
+        records_of(write, &mut random, n, more)?;
+    }
+    Ok(())
+}
+
+fn runs_of(write: Write, random: &mut Random, n: usize, more: bool) -> io::Result<()> {
+    let operations = make::operations(random, n, 8 * n + 8, 20);
+    let text = make::text(n, &operations);
+    let outcomes = operations.iter().filter_map(|operation| measured(*operation)).count();
+    let needed = record::distance_to_rows(n) + outcomes;
+    let coins = random.bytes(outcomes + 1);
+    let lengths = if more { vec![needed, needed - 1, needed + 3] } else { vec![needed] };
+    for lent in lengths {
+        write(Case::Run(text.clone(), coins.clone(), lent))?;
+    }
+    Ok(())
+}
+
+fn records_of(write: Write, random: &mut Random, n: usize, more: bool) -> io::Result<()> {
+    let (outcomes, mut tableau) = make::finished(random, n);
+    let plain = record::write(&outcomes, &tableau);
+    make::shuffle(random, &mut tableau);
+    let shuffled = record::write(&outcomes, &tableau);
+    write(Case::Copy(shuffled.clone(), shuffled.len()))?;
+    if more {
         write(Case::Read([plain.clone(), shuffled.clone()].concat()))?;
-        write(Case::Copy(shuffled.clone(), shuffled.len()))?;
         write(Case::Copy(plain.clone(), plain.len() - 1))?;
         write(Case::Same(plain, shuffled))?;
-        damage::pairing(&mut random, &mut tableau);
+    }
+    if more || n % 3 == 0 {
+        damage::pairing(random, &mut tableau);
         write(Case::Read(record::write(b"", &tableau)))?;
     }
     Ok(())
@@ -52,20 +76,21 @@ fn every_n(write: Write) -> io::Result<()> {
 
 fn most_operations(write: Write) -> io::Result<()> {
     let mut random = Random::new(4096);
-    for (n, percent) in [(1, 50), (5, 30), (63, 3), (64, 20)] {
+    for (n, percent) in [(1, 50), (5, 30), (SEAM, 3), (MOST_QUBITS - 1, 5), (MOST_QUBITS, 20)] {
         let operations = make::operations(&mut random, n, MOST_OPERATIONS, percent);
         let text = make::text(n, &operations);
         let coins = random.bytes(MOST_OPERATIONS);
         write(Case::Check(text.clone()))?;
-        write(Case::Run(text.clone(), coins, 13_000))?;
+        write(Case::Run(text.clone(), coins, record::LONGEST + 500))?;
         let mut cut = text;
         cut.pop();
         write(Case::Check(cut))?;
     }
-    for line in ["M 63\n", "MR 63\n"] {
-        let text = ["Q 64\n".to_string(), line.repeat(MOST_OPERATIONS)].concat();
-        write(Case::Run(text.clone().into_bytes(), vec![], 12_428))?;
-        write(Case::Run(text.into_bytes(), vec![], 12_427))?;
+    for name in ["M", "MR"] {
+        let lines = format!("{name} {}\n", MOST_QUBITS - 1).repeat(MOST_OPERATIONS);
+        let text = format!("Q {MOST_QUBITS}\n{lines}").into_bytes();
+        write(Case::Run(text.clone(), vec![], record::LONGEST))?;
+        write(Case::Run(text, vec![], record::LONGEST - 1))?;
     }
     Ok(())
 }
@@ -90,8 +115,8 @@ fn too_many_operations(write: Write) -> io::Result<()> {
 }
 
 fn most_outcomes(write: Write) -> io::Result<()> {
-    let mut random = Random::new(12_428);
-    for n in [1, 2, 64] {
+    let mut random = Random::new(record::LONGEST as u64);
+    for n in [1, 2, SEAM, MOST_QUBITS] {
         for count in [MOST_OPERATIONS - 1, MOST_OPERATIONS, MOST_OPERATIONS + 1] {
             let mut tableau = Tableau::start(n);
             make::shuffle(&mut random, &mut tableau);
@@ -103,6 +128,20 @@ fn most_outcomes(write: Write) -> io::Result<()> {
             bytes[0] = b'I';
             write(Case::Read(bytes))?;
         }
+    }
+    let longest = vec![b'0'; MOST_OPERATIONS];
+    let longest = record::write(&longest, &Tableau::start(MOST_QUBITS));
+    write(Case::Same(longest.clone(), longest))
+}
+
+/// Records that would be sound if n could be what they say: one more than
+/// the most, and none.
+fn too_wide(write: Write) -> io::Result<()> {
+    for n in [MOST_QUBITS + 1, 0] {
+        let bytes = record::write(b"01", &Tableau::start(n));
+        write(Case::Read(bytes.clone()))?;
+        write(Case::Copy(bytes.clone(), bytes.len()))?;
+        write(Case::Same(bytes, record::write(b"", &Tableau::start(1))))?;
     }
     Ok(())
 }
@@ -144,7 +183,7 @@ fn eight_coins(random: &mut Random, n: usize, first: fn(usize) -> Operation) -> 
 
 fn lacking_coins(write: Write) -> io::Result<()> {
     let mut random = Random::new(7);
-    for n in [1, 2, 5, 63, 64] {
+    for n in [1, 2, 5, SEAM, MOST_QUBITS] {
         for first in [Operation::M, Operation::MR] {
             let text = eight_coins(&mut random, n, first);
             for coins in [0, 1, 3, 4, 7, 8, 9] {

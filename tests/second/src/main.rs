@@ -18,6 +18,8 @@ mod random;
 mod record;
 mod refusal;
 mod row;
+mod seam;
+mod seam_sweeps;
 mod selftest;
 mod shot;
 mod state;
@@ -44,6 +46,7 @@ fn write_cases(seed: u64, count: u64) -> io::Result<bool> {
     let mut write = |case: Case| writeln!(out, "{}", case.line());
     sweeps::all(&mut write)?;
     limits::all(&mut write)?;
+    seam_sweeps::all(&mut write)?;
     let mut random = random::Random::new(seed);
     for _ in 0..count {
         write(cases::case(&mut random))?;

@@ -2,23 +2,38 @@
 //! records come from runs, or from rows shuffled in ways that keep them
 //! properly paired though no short circuit gives them.
 
-use crate::circuit::{self, Operation};
+use crate::circuit::{self, Operation, MOST_QUBITS};
 use crate::letters::{product, Letter, ALL};
 use crate::measure;
 use crate::random::Random;
 use crate::record;
 use crate::row::Row;
+use crate::seam::{SEAM, SIZES};
 use crate::tableau::Tableau;
 
-/// A number of qubits; 1, 63 and 64 come often.
+/// A number of qubits for a circuit; those that must come do so often.
 pub fn qubits(random: &mut Random) -> usize {
     match random.below(100) {
-        0..=14 => 1,
-        15..=20 => 63,
-        21..=30 => 64,
-        31..=69 => random.between(2, 6),
-        70..=89 => random.between(7, 24),
-        _ => random.between(25, 62),
+        0..=9 => 1,
+        10..=37 => *random.one_of(&SIZES),
+        38..=67 => random.between(2, 6),
+        68..=81 => random.between(7, 24),
+        82..=88 => random.between(25, SEAM - 1),
+        _ => random.between(SEAM, MOST_QUBITS),
+    }
+}
+
+/// A number of qubits for a record, whose length grows with its square: the
+/// large ones come more seldom.
+pub fn record_qubits(random: &mut Random) -> usize {
+    if random.chance(18) {
+        return qubits(random);
+    }
+    match random.below(100) {
+        0..=19 => 1,
+        20..=69 => random.between(2, 6),
+        70..=94 => random.between(7, 24),
+        _ => random.between(25, SEAM - 1),
     }
 }
 

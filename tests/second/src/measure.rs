@@ -39,13 +39,17 @@ impl Tableau {
         self
     }
 
+    /// The stabilizers that a fixed measurement of a multiplies.
+    pub fn chosen(&self, a: usize) -> Vec<usize> {
+        let partner_has = |row: &usize| self.rows[self.partner(*row)].has_x_or_y(a);
+        (self.n..2 * self.n).filter(partner_has).collect()
+    }
+
     /// The outcome of a fixed measurement of a.
     pub fn fixed_value(&self, a: usize) -> bool {
         let mut total = Row { minus: false, letters: vec![Letter::I; self.n] };
-        for stabilizer in self.n..2 * self.n {
-            if self.rows[self.partner(stabilizer)].has_x_or_y(a) {
-                total = total.times(&self.rows[stabilizer]);
-            }
+        for stabilizer in self.chosen(a) {
+            total = total.times(&self.rows[stabilizer]);
         }
         total.minus
     }

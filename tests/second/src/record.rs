@@ -8,9 +8,10 @@ use crate::row::Row;
 use crate::tableau::Tableau;
 
 pub const TRAILER: usize = 12;
+pub const LONGEST: usize = distance_to_rows(MOST_QUBITS) + MOST_OPERATIONS;
 
 /// Distance from the record's end to its first row.
-pub fn distance_to_rows(n: usize) -> usize {
+pub const fn distance_to_rows(n: usize) -> usize {
     TRAILER + 2 * n * (n + 1)
 }
 
@@ -54,7 +55,7 @@ pub struct Record {
 }
 
 /// n, the first and the second distance, when the trailer holds good.
-fn trailer(bytes: &[u8]) -> Option<(usize, usize, usize)> {
+pub fn trailer(bytes: &[u8]) -> Option<(usize, usize, usize)> {
     if bytes.len() < TRAILER {
         return None;
     }

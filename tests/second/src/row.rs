@@ -2,7 +2,11 @@
 //! the powers of i are summed as signed numbers, each minus sign adds two,
 //! and the total is reduced by a remainder that is never negative.
 
+use crate::circuit::MOST_QUBITS;
 use crate::letters::{product, Letter};
+
+/// A sign and a letter for each qubit.
+pub const LONGEST_TEXT: usize = 1 + MOST_QUBITS;
 
 #[derive(Clone, PartialEq, Eq, Debug)]
 pub struct Row {

@@ -5,6 +5,7 @@
 use crate::answers;
 use crate::circuit::Operation;
 use crate::protocol::{hex, lent, Case};
+use crate::record;
 use crate::row::Row;
 use crate::shot::shot;
 use crate::tableau::Tableau;
@@ -78,10 +79,13 @@ fn rows_and_gates(tests: &mut Tests) {
 
 fn texts(tests: &mut Tests) {
     tests.check("Q 64\n", "0 0 64 0");
-    for text in ["Q 65\n", "Q 0\n", "Q 999\n"] {
+    tests.check("Q 65\n", "0 0 65 0");
+    tests.check("Q 128\nM 127\nCX 100 99\n", "0 0 128 2");
+    tests.check("Q 128\nM 128\n", "4 2 0 0");
+    for text in ["Q 129\n", "Q 0\n", "Q 999\n"] {
         tests.check(text, "2 1 0 0");
     }
-    for text in ["Q 064\n", "", "Q 1000\n", "Q 2", "Q 65", "q 2\n"] {
+    for text in ["Q 064\n", "", "Q 1000\n", "Q 2", "Q 129", "q 2\n"] {
         tests.check(text, "1 1 0 0");
     }
     tests.check("Q 2\nCX 1 1\n", "5 2 0 0");
@@ -185,6 +189,27 @@ fn records(tests: &mut Tests) {
     tests.case(Case::Same(bell.to_vec(), turned.to_vec()), "0 0 0 0");
 }
 
+/// What document 02, request i, moves: the longest record and the longest
+/// rows.
+fn limits(tests: &mut Tests) {
+    let text = "Q 128\n".to_string() + &"M 127\n".repeat(4096);
+    let found = answers::run(text.as_bytes(), &[], lent(37_132)).line();
+    tests.equal("the longest record", &found[..20], "0 0 37132 0 4096 0 0");
+    let found = answers::run(text.as_bytes(), &[], lent(37_131)).line();
+    tests.equal("a byte too few for it", &found[..13], "8 0 0 0 0 0 0");
+    let row = |length: usize| "+".to_string() + &"Y".repeat(length - 1);
+    let product = "+".to_string() + &"I".repeat(128);
+    tests.product(&row(129), &row(129), &product);
+    let refused = format!("13 0 0 {}", hex(&lent(130)));
+    tests.product(&row(130), &row(130), &refused);
+    let wide = |n: usize| record::write(b"", &Tableau::start(n));
+    for n in [65, 128] {
+        let length = 12 + 2 * n * (n + 1);
+        tests.case(Case::Read(wide(n)), &format!("0 0 {length} {n} 0 0"));
+    }
+    tests.case(Case::Read(wide(129)), "9 0 0 0 0 0");
+}
+
 pub fn run() -> Result<String, String> {
     let mut tests = Tests { passed: 0, failed: Vec::new() };
     rows_and_gates(&mut tests);
@@ -193,6 +218,7 @@ pub fn run() -> Result<String, String> {
     reset_lines(&mut tests);
     resets(&mut tests);
     records(&mut tests);
+    limits(&mut tests);
     if tests.failed.is_empty() {
         return Ok(format!("examples of documents 01 and 02: {} as written", tests.passed));
     }

@@ -1,16 +1,17 @@
 //! The fixed sweeps over small inputs: every byte value at every place of
 //! short lines, rows and records, every prefix and suffix, every product of
 //! short rows, every circuit of two operations on two qubits, every coin
-//! byte, every number after `Q`, and every short word before a number.
+//! byte, every number after `Q`, every qubit's, and every short word before a
+//! number.
 
-use crate::circuit::Operation;
+use crate::circuit::{Operation, MOST_QUBITS};
 use crate::damage;
 use crate::letters::ALL;
 use crate::make;
 use crate::protocol::Case;
 use crate::random::Random;
 use crate::record;
-use crate::row::Row;
+use crate::row::{Row, LONGEST_TEXT};
 use crate::tableau::Tableau;
 use std::io;
 
@@ -27,6 +28,7 @@ pub fn all(write: Write) -> io::Result<()> {
     two_operations(write)?;
     coin_bytes(write)?;
     first_lines(write)?;
+    qubit_numbers(write)?;
     operation_words(write)?;
     operation_lines(write)
 }
@@ -77,12 +79,15 @@ fn bytes_of_lines(write: Write) -> io::Result<()> {
     Ok(())
 }
 
-/// The same of lines far from the end of the text, with numbers of one digit and of two.
+/// The same of lines far from the end of the text, with numbers of one digit,
+/// of two and of three.
 fn bytes_before_lines(write: Write) -> io::Result<()> {
     let behind = b"H 0\nCZ 0 1\nM 1\n";
-    for line in [&b"CX 10 63\n"[..], b"CZ 9 10\n", b"CX 7 0\n"] {
+    let first = format!("Q {MOST_QUBITS}\n").into_bytes();
+    let two = [&b"CX 10 63\n"[..], b"CZ 9 10\n", b"CX 7 0\n", b"CX 100 127\n", b"CZ 99 101\n"];
+    for line in two.into_iter().chain([&b"S 126\n"[..], b"MR 100\n"]) {
         for changed in every_byte(line) {
-            write(Case::Check([b"Q 64\n", &changed[..], behind].concat()))?;
+            write(Case::Check([&first, &changed[..], behind].concat()))?;
         }
     }
     for line in [&b"S 11\n"[..], b"M 0\n", b"MR 0\n", b"MR 11\n"] {
@@ -148,7 +153,7 @@ fn product_lengths(write: Write) -> io::Result<()> {
         text.truncate(length);
         text
     };
-    for length in 0..=67 {
+    for length in 0..=LONGEST_TEXT + 2 {
         let first = row(&mut random, length);
         let second = row(&mut random, length);
         let longer = row(&mut random, length + 1);
@@ -156,8 +161,8 @@ fn product_lengths(write: Write) -> io::Result<()> {
             write(Case::Product(first.clone(), second.clone(), lent))?;
             write(Case::Product(first.clone(), first.clone(), lent))?;
         }
-        write(Case::Product(first.clone(), longer.clone(), 70))?;
-        write(Case::Product(longer, first, 70))?;
+        write(Case::Product(first.clone(), longer.clone(), length + 3))?;
+        write(Case::Product(longer, first, length + 3))?;
     }
     Ok(())
 }
@@ -193,16 +198,37 @@ fn coin_bytes(write: Write) -> io::Result<()> {
 }
 
 fn first_lines(write: Write) -> io::Result<()> {
-    for number in 0..=130 {
+    for number in 0..=999 {
         write(Case::Check(format!("Q {number}\n").into_bytes()))?;
+    }
+    for number in 0..=MOST_QUBITS + 2 {
         write(Case::Check(format!("Q 0{number}\nM 0\n").into_bytes()))?;
     }
-    for line in damage::BAD_FIRST.iter().chain(&damage::BAD_COUNT) {
+    let counts = damage::BAD_COUNT.map(|count| format!("Q {count}"));
+    for line in damage::BAD_FIRST.into_iter().chain(counts.iter().map(|line| line.as_str())) {
         write(Case::Check(line.as_bytes().to_vec()))?;
         write(Case::Check(format!("{line}\n").into_bytes()))?;
         write(Case::Run(format!("{line}\nH 0\nM 9\n").into_bytes(), vec![1, 0], 16))?;
     }
     write(Case::Check(Vec::new()))
+}
+
+/// Every number of one to three digits as a qubit, and those of fewer with
+/// zeros before them.
+fn qubit_numbers(write: Write) -> io::Result<()> {
+    let mut check = |line: String| {
+        write(Case::Check(format!("Q {MOST_QUBITS}\n{line}\n").into_bytes()))
+    };
+    for number in 0..=999 {
+        check(format!("M {number}"))?;
+        check(format!("CX {number} 64"))?;
+        check(format!("CZ 101 {number}"))?;
+    }
+    for number in 0..=99 {
+        check(format!("MR 0{number}"))?;
+        check(format!("CX 0 00{number}"))?;
+    }
+    Ok(())
 }
 
 /// Every word of one to three of the letters that operations are named by,

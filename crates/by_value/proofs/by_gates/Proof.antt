@@ -1,12 +1,14 @@
 -- `by_value::by_gates` stays within what it holds. Assumes nothing.
 use mathlib.Core.Path.{_≡_}
 use Prim.Native.Nat.{_-_, _≤_}
+use Rattle.limits.specs.Limits.{most-qubits}
+use Rattle.tableau.specs.View.{Sized}
 use borrow.Author.Needs.{needs}
 use Rattle.by_value.proofs.by_gates.Statement.{statement}
 use Rattle.by_value.proofs.by_gates.Tie as tie
 
 abbrev Inv-loop : tie.InvT-loop
-Inv-loop rounds t₀ i₀ t i = (t .n ≡ 64) × (i ≤ rounds)
+Inv-loop rounds t₀ i₀ t i = (t .n ≡ most-qubits) × Sized t × (i ≤ rounds)
 
 abbrev μ-loop : tie.MeasureT-loop
 μ-loop rounds t₀ i₀ t i = rounds - i

@@ -1,16 +1,15 @@
 -- `by_value::lent` stays within what it holds. Assumes nothing.
-use mathlib.Core.Path.{_≡_}
 use Prim.Native.Nat.{_-_, _≤_}
-use lib.ListN.{length}
+use Rattle.packing.specs.View.{Words}
 use borrow.Author.Needs.{needs}
 use Rattle.by_value.proofs.lent.Statement.{statement}
 use Rattle.by_value.proofs.lent.Tie as tie
 
 abbrev Inv-loop : tie.InvT-loop
-Inv-loop rounds d₀ s₀ i₀ d s i = (length d ≡ 129) × (length s ≡ 129) × (i ≤ rounds)
+Inv-loop rounds w₀ i₀ w i = Words w × (i ≤ rounds)
 
 abbrev μ-loop : tie.MeasureT-loop
-μ-loop rounds d₀ s₀ i₀ d s i = rounds - i
+μ-loop rounds w₀ i₀ w i = rounds - i
 
 start-requires : tie.Need-start-requires Inv-loop μ-loop
 start-requires c κs = search needs
@@ -20,9 +19,6 @@ loop-holds c = search needs
 
 gate-requires : tie.Need-gate-requires Inv-loop μ-loop
 gate-requires c κs = search needs
-
-gate-requires-2 : tie.Need-gate-requires-2 Inv-loop μ-loop
-gate-requires-2 c κs = search needs
 
 add-i : tie.Need-add-i Inv-loop μ-loop
 add-i c = search needs
@@ -51,7 +47,6 @@ lent-spec =
     start-requires
     loop-holds
     gate-requires
-    gate-requires-2
     add-i
     loop-less
     loop-again

@@ -3,7 +3,7 @@ use mathlib.Core.List.{List}
 use mathlib.Core.Path.{_≡_}
 use Prim.Native.Nat.{ℕ, _≤_}
 use lib.ListN.{length, drop}
-use Rattle.clifford.specs.Limits.{most-operations}
+use Rattle.limits.specs.Limits.{most-qubits, most-operations}
 use Rattle.answers.specs.Verdict.{Verdict, accepted, refused}
 use Rattle.answers.specs.Refusals.{numberOf, placeOf}
 use Rattle.clifford.specs.declared.Op.{Op}
@@ -51,7 +51,7 @@ told-lines (counted.Refused r) = refused (numberOf r) (placeOf r)
 pub record Headed (s : List ℕ) (n body : ℕ) : Type 0 where
   pub stands : Stands header s 0 n body
   pub some-qubits : 1 ≤ n
-  pub few-qubits : n ≤ 64
+  pub few-qubits : n ≤ most-qubits
 
 abbrev pub Heads : List ℕ → Heading → Type 0
 Heads s (heading.Qubits n body) = Headed s n body

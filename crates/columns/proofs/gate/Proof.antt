@@ -39,16 +39,16 @@ enum-known-g-2 c = search needs
 enum-told : tie.Need-enum-told
 enum-told c = search needs
 
-cx-requires : tie.Need-cx-requires
-cx-requires c κs =
+two-requires : tie.Need-two-requires
+two-requires c κs =
     let f = rw (c .before .before .before .before .g2 .given .1) at (c .before .before .before .before .before .before .pre .1) in
     (c .before .before .before .before .before .before .pre .0, f .0, f .1, f .2)
 
 enum-told-2 : tie.Need-enum-told-2
 enum-told-2 c = search needs
 
-cz-requires : tie.Need-cz-requires
-cz-requires c κs =
+two-requires-2 : tie.Need-two-requires-2
+two-requires-2 c κs =
     let f = rw (c .before .before .before .before .g2 .given .1) at (c .before .before .before .before .before .before .pre .1) in
     (c .before .before .before .before .before .before .pre .0, f .0, f .1, f .2)
 
@@ -56,10 +56,10 @@ returns : tie.Need-returns
 returns c = told-one (c .before .before .before .before .g .given .1) (ap one-of (c .before .letter .ensures) ∙ letter-names (c .before .before .before .before .g .given .0 .0)) (c .one .ensures)
 
 returns-2 : tie.Need-returns-2
-returns-2 c = told-two (c .before .before .before .before .before .g2 .given .1) (c .before .before .enum-told .given .1) (c .cx .ensures)
+returns-2 c = told-two (c .before .before .before .before .before .g2 .given .1) (c .before .before .enum-told .given .1) (c .two .ensures)
 
 returns-3 : tie.Need-returns-3
-returns-3 c = told-two (c .before .before .before .before .before .g2 .given .1) (c .before .before .enum-told2 .given .1) (c .cz .ensures)
+returns-3 c = told-two (c .before .before .before .before .before .g2 .given .1) (c .before .before .enum-told2 .given .1) (c .two2 .ensures)
 
 pub gate-spec : {M : Type 1} → statement M
 gate-spec =
@@ -71,9 +71,9 @@ gate-spec =
     one-requires
     enum-known-g-2
     enum-told
-    cx-requires
+    two-requires
     enum-told-2
-    cz-requires
+    two-requires-2
     returns
     returns-2
     returns-3)

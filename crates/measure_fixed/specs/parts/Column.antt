@@ -2,12 +2,11 @@
 -- each other. Its own promise cites none of this. Assumes nothing.
 use mathlib.Core.Bool.{Bool, true, false, _&&_}
 use mathlib.Core.List.{List}
-use Prim.Native.Nat.{ℕ, zero, suc}
-use Prim.Native.Nat.{_+_}
-use lib.ListN.{getD}
+use Prim.Native.Nat.{ℕ, zero, suc, _*_, _+_}
+use Rattle.limits.specs.Limits.{most-qubits}
 use Rattle.pauli.specs.Letters.{Power, i0, i3, next, _⊞_, sign}
 use Rattle.pauli.specs.Rows.{odd-number, sum-powers}
-use Rattle.words.specs.Bit.{bit}
+use Rattle.packing.specs.View.{sign-words, bit-in, bit-at}
 
 -- i to the n
 unfoldable pub power-of : ℕ → Power
@@ -23,24 +22,32 @@ abbrev pub three : Bool → Power
 three false = i0
 three true = i3
 
--- the bits of row r on qubit j, where sel has the row
-abbrev pub x-bit : List ℕ → ℕ → ℕ → ℕ → Bool
-x-bit w sel j r = bit r sel && bit r (getD w j 0)
+-- two words by their number
+abbrev pub pair : ℕ → ℕ → ℕ → ℕ
+pair a b zero = a
+pair a b (suc g) = b
 
-abbrev pub z-bit : List ℕ → ℕ → ℕ → ℕ → Bool
-z-bit w sel j r = bit r sel && bit r (getD w (64 + j) 0)
+-- the bits of stabilizer r on qubit j and its sign, where sel has the row
+abbrev pub x-bit : List ℕ → (ℕ → ℕ) → ℕ → ℕ → Bool
+x-bit w sel j r = bit-in sel r && bit-at w (8 * j) (most-qubits + r)
 
--- two for the minus of row r, and three for each of its letters Y
-unfoldable pub row-power : ℕ → List ℕ → ℕ → ℕ → Power
-row-power n w sel r = sign (bit r sel && bit r (getD w 128 0)) ⊞ sum-powers (λ j. three (x-bit w sel j r && z-bit w sel j r)) n
+abbrev pub z-bit : List ℕ → (ℕ → ℕ) → ℕ → ℕ → Bool
+z-bit w sel j r = bit-in sel r && bit-at w (8 * j + 4) (most-qubits + r)
 
-unfoldable pub row-powers : ℕ → ℕ → List ℕ → ℕ → Power
-row-powers m n w sel = sum-powers (row-power n w sel) m
+abbrev pub s-bit : List ℕ → (ℕ → ℕ) → ℕ → Bool
+s-bit w sel r = bit-in sel r && bit-at w sign-words (most-qubits + r)
 
--- two for each x of column j with an odd number of z up to its row, and three where x and z are both odd in number
-unfoldable pub column-power : ℕ → List ℕ → ℕ → ℕ → Power
-column-power m w sel j =
-    sign (odd-number (λ r. odd-number (z-bit w sel j) (suc r) && x-bit w sel j r) m) ⊞ three (odd-number (x-bit w sel j) m && odd-number (z-bit w sel j) m)
+-- of rows whose bits on qubit j are X j r and Z j r and whose sign is S r: two for the minus of row r, and three for each letter Y among the first n
+abbrev pub by-row : (ℕ → ℕ → Bool) → (ℕ → ℕ → Bool) → (ℕ → Bool) → ℕ → ℕ → Power
+by-row X Z S n r = sign (S r) ⊞ sum-powers (λ j. three (X j r && Z j r)) n
 
-unfoldable pub column-powers : ℕ → ℕ → List ℕ → ℕ → Power
-column-powers m n w sel = sum-powers (column-power m w sel) n
+-- two for each x of column j with an odd number of z up to its row, of the first m, and three where x and z are both odd in number
+abbrev pub by-column : (ℕ → ℕ → Bool) → (ℕ → ℕ → Bool) → ℕ → ℕ → Power
+by-column X Z m j = sign (odd-number (λ r. odd-number (Z j) (suc r) && X j r) m) ⊞ three (odd-number (X j) m && odd-number (Z j) m)
+
+abbrev pub summed : (ℕ → ℕ → Bool) → (ℕ → ℕ → Bool) → (ℕ → Bool) → ℕ → ℕ → Power
+summed X Z S m n = sum-powers (by-row X Z S n) m ⊞ sum-powers (by-column X Z m) n
+
+-- of the first m stabilizers, those that sel has, on n qubits
+unfoldable pub all-powers : ℕ → ℕ → List ℕ → (ℕ → ℕ) → Power
+all-powers m n w sel = summed (x-bit w sel) (z-bit w sel) (s-bit w sel) m n

@@ -4,7 +4,7 @@ use mathlib.Core.Path.{_≡_}
 use Prim.Native.Nat.{ℕ, _+_, _*_, _%_, _≤_}
 use lib.Dec.{eqb, leb}
 use lib.ListN.{length, take, drop}
-use Rattle.clifford.specs.Limits.{most-operations}
+use Rattle.limits.specs.Limits.{most-qubits, most-operations}
 use Rattle.answers.specs.Verdict.{accepted}
 use Rattle.clifford.specs.declared.Op.{Op}
 use Rattle.clifford.specs.declared.Op.the-variants.{Gate as apply, Measure as measure}
@@ -33,7 +33,7 @@ sheet-lines ops n sheet = outcome-lines 2 ops (map outcome-told sheet) ++ parts-
 -- an accepted text whose operation lines begin at body, and a record of its run
 pub record Ready (text : List ℕ) (body n : ℕ) (sheet : List ℕ) : Type 0 where
   pub some-qubits : 1 ≤ n
-  pub few-qubits : n ≤ 64
+  pub few-qubits : n ≤ most-qubits
   pub lines : operations n most-operations 2 (drop body text) ≡ accepted (lines-of n body text)
   pub room : count-measured (lines-of n body text) + (n + n) * (n + 1) ≤ length sheet
 

@@ -60,15 +60,16 @@ pub record OpAt (s : List ℕ) (at n code : ℕ) : Type 0 where
   pub allows : 0 < code → Allowed s at n code
   pub refuses : code ≡ 0 → at < length s → (room line : ℕ) (ops : List Op) → operations n room line (drop at s) ≡ accepted ops → ⊥
 
--- how many digits a number has, by the byte behind its first
-abbrev pub digits-by : ℕ → ℕ
-digits-by second = cond (is-digit second) 2 1
+-- how many digits a number behind a space has, if the byte stop ends it: three where that stands behind the third, and otherwise by the byte behind the first
+abbrev pub digits-at : List ℕ → ℕ → ℕ → ℕ
+digits-at s at stop = cond (eqb (getD s (at + 4) 0) stop) 3 (cond (is-digit (getD s (at + 2) 0)) 2 1)
 
--- where it is below n, the qubit whose number stands there behind a space, with the byte stop behind it
+-- the qubit whose number stands there behind a space, with the byte stop behind it
 pub record Ends-by (s : List ℕ) (at stop value : ℕ) : Type 0 where
   pub spaced : getD s at 0 ≡ space
-  pub stands : Stands qubit s at value (at + 1 + digits-by (getD s (at + 2) 0))
-  pub stops : getD s (at + 1 + digits-by (getD s (at + 2) 0)) 0 ≡ stop
+  pub stands : Stands qubit s at value (at + 1 + digits-at s at stop)
+  pub stops : getD s (at + 1 + digits-at s at stop) 0 ≡ stop
 
+-- it does, where the value is below n
 abbrev pub QubitAt : List ℕ → ℕ → ℕ → ℕ → ℕ → Type 0
 QubitAt s at n stop value = value < n → Ends-by s at stop value

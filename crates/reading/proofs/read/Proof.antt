@@ -22,8 +22,8 @@ refused-requires c κs = search needs
 
 returns : tie.Need-returns
 returns c =
-    let s = c .before .before .before .before .args .bytes .now in
-    refusing s NoRecord _ (c .refused .ensures) (no-record s (sym (c .before .before .ends .ensures) ∙ not-true _ (c .before .if1 .taken)))
+    let s = c .before .before .before .before .before .args .bytes .now in
+    refusing s NoRecord _ _ (c .refused .ensures) (no-record s (sym (c .before .before .before .ends .ensures) ∙ not-true _ (c .before .before .if1 .taken)))
 
 -- past the first test the bytes end in a record
 is-end : (c : tie.Else1) → ends-in-record (c .before .before .before .args .bytes .now) ≡ true
@@ -31,6 +31,10 @@ is-end c = sym (c .before .ends .ensures) ∙ not-false _ (c .if1 .left)
 
 long : (c : tie.Else1) → 12 ≤ length (c .before .before .before .args .bytes .now)
 long c = ending (c .before .before .before .args .bytes .now) (is-end c) .long
+
+-- what is known of the trailer's numbers once all three are read
+known : (c : tie.After-second) → Pointed (c .before .before .before .before .before .before .args .bytes .now) (c .before .before .qubits .result) (c .before .first .result) (c .second .result)
+known c = pointed _ _ _ _ (is-end (c .before .before .before)) (c .before .before .qubits .ensures .0) (c .before .first .ensures .0) (c .second .ensures .0)
 
 qubits-requires : tie.Need-qubits-requires
 qubits-requires c κs = long c
@@ -41,95 +45,81 @@ first-requires c κs = long (c .before)
 second-requires : tie.Need-second-requires
 second-requires c κs = long (c .before .before)
 
--- what is known of the trailer's numbers once all three are read
-known : (c : tie.After-second)
-    → Pointed (c .before .before .before .before .before .before .args .bytes .now) (c .before .before .qubits .result) (c .before .first .result) (c .second .result)
-known c = pointed _ _ _ _ (is-end (c .before .before .before)) (c .before .before .qubits .ensures .0) (c .before .first .ensures .0) (c .second .ensures .0)
-
 sub-start : tie.Need-sub-start
 sub-start c = omega (arith, known c)
 
 sub-outcomes : tie.Need-sub-outcomes
 sub-outcomes c = omega (arith, known c)
 
-add-half : tie.Need-add-half
-add-half c = search needs
-
-mul-half : tie.Need-mul-half
-mul-half c = omega (arith, known c)
-
 bad-requires : tie.Need-bad-requires
 bad-requires c κs = omega (arith, known c)
+
+add-if2 : tie.Need-add-if2
+add-if2 c = search needs
 
 mul-if2 : tie.Need-mul-if2
 mul-if2 c = omega (arith, known (c .before))
 
-add-if2 : tie.Need-add-if2
-add-if2 c = omega (arith, known (c .before))
+mul-if2-2 : tie.Need-mul-if2-2
+mul-if2-2 c = omega (arith, known (c .before))
+
+add-if2-2 : tie.Need-add-if2-2
+add-if2-2 c = omega (arith, known (c .before))
 
 refused-requires-2 : tie.Need-refused-requires-2
 refused-requires-2 c κs = search needs
 
 returns-2 : tie.Need-returns-2
 returns-2 c =
-    let b = c .before .before in
+    let b = c .before .before .before in
     let a = b .before in
     let e = a .before .before .before in
     let s = e .before .before .before .args .bytes .now in
-    refusing s (BadByte _) _ (c .refused2 .ensures)
-    (bad-byte s _ _ _ (is-end e) (a .before .before .qubits .ensures .0) (a .before .first .ensures .0) (a .second .ensures .0) (b .bad .result) (b .bad .ensures) (c .before .if2 .taken))
+    refusing s (BadByte _) _ _ (c .refused2 .ensures) (bad-byte s _ _ _ (is-end e) (a .before .before .qubits .ensures .0) (a .before .first .ensures .0) (a .second .ensures .0) (b .bad .result) (b .bad .ensures) (c .before .before .if2 .taken))
 
 add-rows : tie.Need-add-rows
-add-rows c = omega (arith, known (c .before .before))
+add-rows c = search needs
 
-group-requires : tie.Need-group-requires
-group-requires c κs = omega (arith, known (c .before .before))
-
-add-group : tie.Need-add-group
-add-group c = omega (arith, known (c .before .before .before))
-
-group-requires-2 : tie.Need-group-requires-2
-group-requires-2 c κs = omega (arith, known (c .before .before .before))
+rows-requires : tie.Need-rows-requires
+rows-requires c κs =
+    let k = known (c .before .before .before) in
+    (c .before .before .before .before .before .before .before .before .before .pre, k .most, omega (arith, k))
 
 unpaired-requires : tie.Need-unpaired-requires
 unpaired-requires c κs =
-    let g = c .before .before in
-    let k = known (g .before .before .before .before) in
-    (k .least, k .most, g .before .group .ensures .only, g .group2 .ensures .only)
+    let k = known (c .before .before .before .before .before) in
+    (k .least, k .most, c .before .rows .ensures .only)
 
 add-if3 : tie.Need-add-if3
-add-if3 c = omega (arith, known (c .before .before .before .before .before .before .before))
+add-if3 c = search needs
 
 refused-requires-3 : tie.Need-refused-requires-3
 refused-requires-3 c κs = search needs
 
 returns-3 : tie.Need-returns-3
 returns-3 c =
-    let u = c .before .before in
-    let g = u .before .before .before in
-    let b = g .before .before .before in
+    let u = c .before .before .before in
+    let l = u .before .before in
+    let b = l .before .before .before in
     let a = b .before in
     let e = a .before .before .before in
     let s = e .before .before .before .args .bytes .now in
-    refusing s (NotPaired _) _ (c .refused3 .ensures)
-    (not-paired s _ _ _ (is-end e) (a .before .before .qubits .ensures .0) (a .before .first .ensures .0) (a .second .ensures .0) (b .bad .result) (b .bad .ensures) (g .before .before .if2 .left)
-    (g .before .group .result) (g .group2 .result) (g .before .group .ensures) (g .group2 .ensures) (u .unpaired .result) (u .unpaired .ensures) (c .before .if3 .taken))
+    refusing s (NotPaired _) _ _ (c .refused3 .ensures)
+    (not-paired s _ _ _ (is-end e) (a .before .before .qubits .ensures .0) (a .before .first .ensures .0) (a .second .ensures .0) (b .bad .result) (b .bad .ensures) (l .before .before .if2 .left) (known a .most) _ (l .rows .ensures) (u .unpaired .result) (u .unpaired .ensures) (c .before .before .if3 .taken))
 
 returns-4 : tie.Need-returns-4
 returns-4 c =
     let u = c .before in
-    let g = u .before .before .before in
-    let b = g .before .before .before in
+    let l = u .before .before in
+    let b = l .before .before .before in
     let a = b .before in
     let e = a .before .before .before in
     let s = e .before .before .before .args .bytes .now in
     let k = known a in
     record {
-      answer = sym (accepts s _ _ _ (is-end e) (a .before .before .qubits .ensures .0) (a .before .first .ensures .0) (a .second .ensures .0) (b .bad .result) (b .bad .ensures) (g .before .before .if2 .left)
-          (g .before .group .result) (g .group2 .result) (g .before .group .ensures) (g .group2 .ensures) (u .unpaired .result) (u .unpaired .ensures) (c .if3 .left));
+      answer = sym (accepts s _ _ _ (is-end e) (a .before .before .qubits .ensures .0) (a .before .first .ensures .0) (a .second .ensures .0) (b .bad .result) (b .bad .ensures) (l .before .before .if2 .left) (k .most) _ (l .rows .ensures) (u .unpaired .result) (u .unpaired .ensures) (c .if3 .left));
       besides = record { inside = omega (arith, k); few = omega (arith, k); least = k .least; most = k .most };
-      destabilizers = g .before .group .ensures .only;
-      stabilizers = g .group2 .ensures .only;
+      holds = l .rows .ensures .only;
     }
 
 pub read-spec : {M : Type 1} → statement M
@@ -144,17 +134,15 @@ read-spec =
     second-requires
     sub-start
     sub-outcomes
-    add-half
-    mul-half
     bad-requires
-    mul-if2
     add-if2
+    mul-if2
+    mul-if2-2
+    add-if2-2
     refused-requires-2
     returns-2
     add-rows
-    group-requires
-    add-group
-    group-requires-2
+    rows-requires
     unpaired-requires
     add-if3
     refused-requires-3

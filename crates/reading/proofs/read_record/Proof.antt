@@ -12,11 +12,10 @@ read-requires c κs = search needs
 enum-known-found : tie.Need-enum-known-found
 enum-known-found c = search needs
 
-inside : (c : tie.After-found)
-    → Within (c .before .before .before .before .before .before .args .bytes .now) (c .before .before .before .before .read .result .n) (c .found .given .0 .0) (c .found .given .0 .1 .0)
+inside : (c : tie.After-found) → Within (c .before .before .before .before .before .args .bytes .now) (c .found .given .0 .1 .1 .0) (c .found .given .0 .0) (c .found .given .0 .1 .0)
 inside c =
-    let r = c .before .before .before .before in
-    within (r .before .before .args .bytes .now) (r .read .result) (r .read .ensures) _ _ (c .found .given .1)
+    let r = c .before .before in
+    within (c .before .before .before .before .before .args .bytes .now) (r .read .result) _ (r .read .ensures) _ _ _ (c .found .given .1)
 
 add-end : tie.Need-add-end
 add-end c = omega (arith, inside (c .before))
@@ -54,14 +53,14 @@ part-result-end-2 c = search needs
 returns : tie.Need-returns
 returns c =
     let f = c .before .before .before in
-    let r = f .before .before .before .before in
-    hands-record (r .before .before .args .bytes .now) (r .read .result) (r .read .ensures) _ _ (f .found .given .1)
+    let r = f .before .before in
+    hands-record (f .before .before .before .before .before .args .bytes .now) (r .read .result) _ (r .read .ensures) _ _ _ (f .found .given .1)
 
 returns-2 : tie.Need-returns-2
 returns-2 c =
     let f = c .before .before .before .before .before in
-    let r = f .before .before .before .before in
-    hands-refused (r .before .before .args .bytes .now) (r .read .result) (r .read .ensures) _ _ _ (f .found2 .given .1) (c .before .before .before .number .ensures) (c .before .before .place .ensures)
+    let r = f .before .before in
+    hands-refused (f .before .before .before .before .before .args .bytes .now) (r .read .result) _ (r .read .ensures) _ _ _ (f .found2 .given .1) (c .before .before .before .number .ensures) (c .before .before .place .ensures)
 
 pub read-record-spec : {M : Type 1} → statement M
 read-record-spec =

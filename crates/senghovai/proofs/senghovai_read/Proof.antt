@@ -1,52 +1,50 @@
-use mathlib.Core.Path.{refl}
-use native.Mathlib.Omega.{arith}
-use Rattle.senghovai.specs.Exports.{read-places}
-use Rattle.senghovai.proofs.Told.{is-told, read-told, part-length}
+-- `senghovai::senghovai_read` meets its contract. Assumes nothing.
+use Rattle.senghovai.proofs.Told.{told-inside, told-record, told-refusal}
 use borrow.Author.Needs.{needs}
 use Rattle.senghovai.proofs.senghovai_read.Statement.{statement}
 use Rattle.senghovai.proofs.senghovai_read.Tie as tie
 
-read-sheet-requires : tie.Need-read-sheet-requires
-read-sheet-requires c κs = search needs
+read-requires : tie.Need-read-requires
+read-requires c κs = search needs
 
-enum-known-found : tie.Need-enum-known-found
-enum-known-found c = search needs
+array-read-if1 : tie.Need-array-read-if1
+array-read-if1 c = search needs
 
-sub-size : tie.Need-sub-size
-sub-size c =
-    let b = rw (c .before .found .given .1) at (c .before .before .before .read-sheet .ensures .besides) in
-    omega (arith, b .inside)
+array-read-result : tie.Need-array-read-result
+array-read-result c = search needs
 
-enum-known-found-2 : tie.Need-enum-known-found-2
-enum-known-found-2 c = search needs
-
-place-requires : tie.Need-place-requires
-place-requires c κs = search needs
-
-number-requires : tie.Need-number-requires
-number-requires c κs = search needs
+array-read-result-2 : tie.Need-array-read-result-2
+array-read-result-2 c = search needs
 
 returns : tie.Need-returns
-returns c =
-    let f = c .before .before .found .given in
-    let r = c .before .before .before .before .read-sheet .ensures in
-    let b = rw (f .1) at (r .besides) in
-    read-told (c .before .before .before .before .before .before .args .bytes .now) _ _ (f .0 .0) (f .0 .1 .0) (rw (f .1) at (r .answer)) refl refl (part-length _ _ _ (b .inside)) (omega (arith, b .inside))
+returns c = told-refusal _ _ _ _ (c .before .before .read .ensures) (c .before .if1 .taken)
+
+array-read-start : tie.Need-array-read-start
+array-read-start c = search needs
+
+sub-start : tie.Need-sub-start
+sub-start c = told-inside _ _ _ _ (c .before .read .ensures)
+
+array-read-t11 : tie.Need-array-read-t11
+array-read-t11 c = search needs
+
+array-read-t21 : tie.Need-array-read-t21
+array-read-t21 c = search needs
 
 returns-2 : tie.Need-returns-2
-returns-2 c =
-    let e = rw (c .before .before .before .before .found2 .given .1) at (c .before .before .before .before .before .before .read-sheet .ensures .answer) in
-    rw (c .number .ensures, c .before .before .place .ensures) (is-told (read-places (c .before .before .before .before .before .before .before .before .args .bytes .now)) _ _ e)
+returns-2 c = told-record _ _ _ _ (c .before .before .read .ensures) (c .before .if1 .left)
 
 pub senghovai-read-spec : {M : Type 1} → statement M
 senghovai-read-spec =
     tie.close
     (tie.spec
-    read-sheet-requires
-    enum-known-found
-    sub-size
-    enum-known-found-2
-    place-requires
-    number-requires
+    read-requires
+    array-read-if1
+    array-read-result
+    array-read-result-2
     returns
+    array-read-start
+    sub-start
+    array-read-t11
+    array-read-t21
     returns-2)

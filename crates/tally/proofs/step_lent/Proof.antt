@@ -38,6 +38,7 @@ use denote.Triple.Statement.{Contract, Triple}
 use denote.Triple.Table.{entered, cited}
 use denote.Triple.Walked.{says, needs, Stays, stay-ref, stay-none, walkOf, AllGo, goes-none, goes-ref, Walks, ends-at, walked, walk-meets}
 use denote.Exit.{yes}
+use Rattle.limits.specs.Limits.{most-operations}
 use Rattle.tally.specs.declared.Tally.{Tally}
 use Rattle.tally.specs.parts.Stepping.{stepped}
 use Rattle.tally.proofs.Tally as T
@@ -58,7 +59,7 @@ stayed = (stay-ref (0 ∷ []) tt (plain (λ _. T.the-row)), (stay-none (λ _. bo
 abbrev Next : {M : Type 1} (𝓤 : URA M) (H : Heap 𝓤) (A : Atoms 𝓤) (at-mem : Memory → SProp 𝓤) (run : Routine → Fun 𝓤) → Contract 𝓤
 Next 𝓤 H A at-mem run = tripleOf 𝓤 H A next.signature (next.spec 𝓤 H A at-mem run)
 
-module _ {M : Type 1} (𝓤 : URA M) (H : Heap 𝓤) (A : Atoms 𝓤) (W : Given 𝓤 H A) (at-mem : Memory → SProp 𝓤) (run : Routine → Fun 𝓤) (κ : Lft) (q : Share) (b o : ℕ) (γ : GName) (h : Tally) (random : Bool) (below : (h .measured < 4096) × (h .random < 4096) × (h .taken < 4096)) where
+module _ {M : Type 1} (𝓤 : URA M) (H : Heap 𝓤) (A : Atoms 𝓤) (W : Given 𝓤 H A) (at-mem : Memory → SProp 𝓤) (run : Routine → Fun 𝓤) (κ : Lft) (q : Share) (b o : ℕ) (γ : GName) (h : Tally) (random : Bool) (below : (h .measured < most-operations) × (h .random < most-operations) × (h .taken < most-operations)) where
   abbrev x : RefT Tally × (Bool × Unit {0})
   x = (record { ptr = (b, o); name = γ; now = h }, (random, tt))
 

@@ -39,6 +39,7 @@ use denote.Triple.Statement.{Contract, Triple}
 use denote.Triple.Table.{entered, cited}
 use denote.Triple.Walked.{says, needs, Stays, stay-none, walkOf, AllGo, goes-none, Walks, ends-at, walked, walk-meets}
 use denote.Exit.{yes}
+use Rattle.limits.specs.Limits.{most-operations}
 use Rattle.tally.specs.declared.Tally.{Tally}
 use Rattle.tally.specs.parts.Stepping.{stepped}
 use Rattle.tally.proofs.Tally as T
@@ -76,7 +77,7 @@ module _ {M : Type 1} (𝓤 : URA M) (H : Heap 𝓤) (A : Atoms 𝓤) (W : Given
       qed W (‵ (partAt T.the-row fullShare t l 0) ∷ []) ∵ fpick ! (λ vs. fsplit ! $ spelt ! T.the-row (Is T.the-row) (shows 𝓤 H A T.the-row) (LL.vals T.the-type T′.the-laws) (LL.tells T.the-type T′.the-laws) fullShare t vs l 0 $
       use1 W (‵ (fat fullShare T′.mir l 0 mach)) (W .laws .raw-at fullShare T′.mir l 0 mach) $ done !)
 
-module _ {M : Type 1} (𝓤 : URA M) (H : Heap 𝓤) (A : Atoms 𝓤) (W : Given 𝓤 H A) (at-mem : Memory → SProp 𝓤) (run : Routine → Fun 𝓤) (h : Tally) (random : Bool) (fits : (h .measured < 2 ^ 64) × (h .random < 2 ^ 64) × (h .taken < 2 ^ 64)) (below : (h .measured < 4096) × (h .random < 4096) × (h .taken < 4096)) where
+module _ {M : Type 1} (𝓤 : URA M) (H : Heap 𝓤) (A : Atoms 𝓤) (W : Given 𝓤 H A) (at-mem : Memory → SProp 𝓤) (run : Routine → Fun 𝓤) (h : Tally) (random : Bool) (fits : (h .measured < 2 ^ 64) × (h .random < 2 ^ 64) × (h .taken < 2 ^ 64)) (below : (h .measured < most-operations) × (h .random < most-operations) × (h .taken < most-operations)) where
   abbrev a : Args stepped-numbers.signature tt
   a = (h .measured, (h .random, (h .taken, (random, tt))))
 

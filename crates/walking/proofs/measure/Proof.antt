@@ -37,31 +37,31 @@ enum-told c = search needs
 
 returns : tie.Need-returns
 returns c =
-    let e = c .before .before .before .before .before .before .before .before .before in
+    let e = c .before .before .before .before .before .before .before .before in
     let q = c .before .before .before in
     let w = c .before .before .before .before .before .shoot in
-    let f = rw (q .value .given .1) at (w .ensures .2) in (
+    let f = rw (q .value .given .1) at (w .ensures .1) in (
       refl,
-      λ line state v. went-fixed (e .args .n) (e .args .coins .now) state (e .args .d .now) (e .args .s .now) (e .args .marks .now) (e .args .tally) v line (following (e .args .reset)) (e .args .a) (q .value .given .0 .0) _ _ (c .before .mark .result) (c .stepped-numbers .result)
-          (w .ensures .0) (w .ensures .1) f (c .before .mark .ensures) (c .stepped-numbers .ensures) (e .pre .0 .measured),
+      λ line state v. went-fixed (e .args .n) (e .args .coins .now) state (e .args .words .now) (e .args .marks .now) (e .args .tally) v line (following (e .args .reset)) (e .args .a) (q .value .given .0 .0) _ (c .before .mark .result) (c .stepped-numbers .result)
+          (w .ensures .0) f (c .before .mark .ensures) (c .stepped-numbers .ensures) (e .pre .0 .measured),
     )
 
 returns-2 : tie.Need-returns-2
 returns-2 c =
-    let e = c .before .before .before .before .before .before .before .before .before in
+    let e = c .before .before .before .before .before .before .before .before in
     let q = c .before .before .before in
     let w = c .before .before .before .before .before .shoot in
-    let f = rw (q .value2 .given .1) at (w .ensures .2) in (
+    let f = rw (q .value2 .given .1) at (w .ensures .1) in (
       refl,
-      λ line state v. went-random (e .args .n) (e .args .coins .now) state (e .args .d .now) (e .args .s .now) (e .args .marks .now) (e .args .tally) v line (following (e .args .reset)) (e .args .a) (q .value2 .given .0 .0) _ _ (c .before .mark2 .result) (c .stepped-numbers2 .result)
-          (w .ensures .0) (w .ensures .1) f (c .before .mark2 .ensures) (c .stepped-numbers2 .ensures) (e .pre .0 .measured),
+      λ line state v. went-random (e .args .n) (e .args .coins .now) state (e .args .words .now) (e .args .marks .now) (e .args .tally) v line (following (e .args .reset)) (e .args .a) (q .value2 .given .0 .0) _ (c .before .mark2 .result) (c .stepped-numbers2 .result)
+          (w .ensures .0) f (c .before .mark2 .ensures) (c .stepped-numbers2 .ensures) (e .pre .0 .measured),
     )
 
 returns-3 : tie.Need-returns-3
 returns-3 c =
-    let e = c .before .before .before .before .before .before in
+    let e = c .before .before .before .before .before in
     let w = c .before .before .shoot in
-    λ line state v. went-dry (e .args .n) (e .args .coins .now) state (e .args .d .now) (e .args .s .now) (e .args .marks .now) (e .args .tally) v line (following (e .args .reset)) (e .args .a) (rw (c .enum-told .given .1) at (w .ensures .2))
+    λ line state v. went-dry (e .args .n) (e .args .coins .now) state (e .args .words .now) (e .args .marks .now) (e .args .tally) v line (following (e .args .reset)) (e .args .a) (rw (c .enum-told .given .1) at (w .ensures .1))
 
 pub measure-spec : {M : Type 1} → statement M
 measure-spec =

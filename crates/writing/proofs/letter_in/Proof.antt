@@ -1,11 +1,12 @@
 -- `writing::letter_in` meets its contract. Assumes nothing.
 use mathlib.Core.Bool.{Bool}
 use mathlib.Core.Path.{_∙_, ap₂}
-use Prim.Native.Nat.{_+_, _*_, _/_, _%_}
+use Prim.Native.Nat.{_/_, _%_}
 use native.Mathlib.Omega.{arith}
 use lib.ListN.{getD}
 use Rattle.pauli.specs.Letters.{letter}
 use Rattle.pauli.specs.Texts.{letter-byte}
+use Rattle.writing.specs.parts.Planes.{byte-place}
 use Rattle.writing.proofs.Bytes.{has-bit}
 use borrow.Author.Needs.{needs}
 use Rattle.writing.proofs.letter_in.Statement.{statement}
@@ -35,7 +36,7 @@ letter-byte-requires c κs = search needs
 returns : tie.Need-returns
 returns c =
     let e = c .before .before .before .args in
-    let at = 64 * (e .i / 8) + e .j in
+    let at = byte-place (e .i / 8) (e .j) in
     c .letter-byte .ensures
     ∙ ap₂ (λ (x z : Bool). letter-byte (letter x z)) (has-bit (getD (e .xs .now) at 0) (e .i % 8) (omega arith)) (has-bit (getD (e .zs .now) at 0) (e .i % 8) (omega arith))
 

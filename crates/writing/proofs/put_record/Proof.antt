@@ -44,7 +44,7 @@ returns c =
     let m = f .before .before .before .before in
     let e = m .before .before .before .before in (
       c .record-size .ensures,
-      record-placed (e .args .out .now) _ _ _ _ (e .args .marks .now) (e .args .destabilizers .now) (e .args .stabilizers .now) (e .args .n) (e .pre .3)
+      record-placed (e .args .out .now) _ _ _ _ (e .args .marks .now) (e .args .words .now) (e .args .n) (e .pre .3)
           (m .put-marks .ensures) (f .put-group .ensures) (g .put-group2 .ensures) (t .put-trailer .ensures),
     )
 

@@ -1,6 +1,7 @@
 use Rattle.writing.proofs.Parts.{trailer-placed}
 use native.Mathlib.Omega.{arith}
 use borrow.Author.Needs.{needs}
+use Rattle.limits.specs.Limits.{most-qubits}
 use Rattle.records.proofs.Lengths.{square-below}
 use Rattle.writing.proofs.put_trailer.Statement.{statement}
 use Rattle.writing.proofs.put_trailer.Tie as tie
@@ -15,7 +16,7 @@ add-put-four : tie.Need-add-put-four
 add-put-four c = search needs
 
 add-put-four-2 : tie.Need-add-put-four-2
-add-put-four-2 c = omega (arith, square-below (c .before .before .before .before .before .before .before .args .n) (omega arith), c .before .before .before .before .before .distance .ensures)
+add-put-four-2 c = omega (arith, square-below (c .before .before .before .before .before .before .before .args .n) {m = most-qubits} (omega arith), c .before .before .before .before .before .distance .ensures)
 
 put-four-requires-2 : tie.Need-put-four-requires-2
 put-four-requires-2 c κs = search needs

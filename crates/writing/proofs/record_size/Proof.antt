@@ -1,4 +1,5 @@
 use native.Mathlib.Omega.{arith}
+use Rattle.limits.specs.Limits.{most-qubits}
 use Rattle.records.proofs.Lengths.{square-below}
 use borrow.Author.Needs.{needs}
 use Rattle.writing.proofs.record_size.Statement.{statement}
@@ -8,7 +9,7 @@ distance-requires : tie.Need-distance-requires
 distance-requires c κs = search needs
 
 add-result : tie.Need-add-result
-add-result c = omega (arith, square-below (c .before .args .n) (omega arith), c .distance .ensures)
+add-result c = omega (arith, square-below (c .before .args .n) {m = most-qubits} (omega arith), c .distance .ensures)
 
 returns : tie.Need-returns
 returns c = search needs

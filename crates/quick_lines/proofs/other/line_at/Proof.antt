@@ -2,6 +2,7 @@
 use mathlib.Core.Bool.{_&&_}
 use mathlib.Core.Path.{sym, _∙_, ap₂}
 use native.Mathlib.Omega.{arith}
+use Rattle.limits.specs.Limits.{most-qubits}
 use Rattle.circuit.proofs.Walk.{and-left, and-right}
 use Rattle.quick_lines.proofs.Bounds.{line-short}
 use Rattle.quick_lines.proofs.Codes.{below-more, op-read, op-refused, op-malformed}
@@ -28,7 +29,7 @@ of-requires : tie.Need-of-requires
 of-requires c κs =
     let a = c .before .before .before .before .before .before .before .before .args in
     let r = rw (c .before .before .before .before .op .given .1) at (c .before .before .before .before .before .before .line-at .ensures) in
-    (below-more (a .n) 64 (c .before .before .before .before .op .given .0 .0) (c .before .before .before .before .before .before .before .before .pre) (sym (c .before .before .qubits-below .ensures) ∙ and-left _ (c .before .qubits-apart .result) (c .if1 .taken)), omega (arith, r .after), omega (arith, r .after, line-short (a .s .now) (a .at) _ _ r))
+    (below-more (a .n) most-qubits (c .before .before .before .before .op .given .0 .0) (c .before .before .before .before .before .before .before .before .pre) (sym (c .before .before .qubits-below .ensures) ∙ and-left _ (c .before .qubits-apart .result) (c .if1 .taken)), omega (arith, r .after), omega (arith, r .after, line-short (a .s .now) (a .at) _ _ r))
 
 returns : tie.Need-returns
 returns c =

@@ -5,6 +5,7 @@ use Prim.Native.Nat.{ℕ, _<_}
 use lib.Dec.{ltb}
 use native.Mathlib.Omega.{arith}
 use borrow.Author.Tests.{ltb-true}
+use Rattle.limits.specs.Limits.{most-qubits}
 use Rattle.circuit.proofs.Walk.{and-left, and-right}
 use borrow.Author.Needs.{needs}
 use Rattle.clifford.proofs.Named.{letter-below}
@@ -12,11 +13,11 @@ use Rattle.quick_lines.proofs.Codes.{letter-told}
 use Rattle.quick_lines.proofs.other.of.Statement.{statement}
 use Rattle.quick_lines.proofs.other.of.Tie as tie
 
-byte : {a : ℕ} → ltb a 64 ≡ true → a < 256
-byte {a} e = omega (arith, ltb-true a 64 e)
+byte : {a : ℕ} → ltb a most-qubits ≡ true → a < 256
+byte {a} e = omega (arith, ltb-true a most-qubits e)
 
-bytes : (a b : ℕ) → (ltb a 64 && ltb b 64) ≡ true → (a < 256) × (b < 256)
-bytes a b e = (byte (and-left (ltb a 64) (ltb b 64) e), byte (and-right (ltb a 64) (ltb b 64) e))
+bytes : (a b : ℕ) → (ltb a most-qubits && ltb b most-qubits) ≡ true → (a < 256) × (b < 256)
+bytes a b e = (byte (and-left (ltb a most-qubits) (ltb b most-qubits) e), byte (and-right (ltb a most-qubits) (ltb b most-qubits) e))
 
 enum-known-op : tie.Need-enum-known-op
 enum-known-op c = search needs

@@ -1,12 +1,12 @@
 -- `quick_lines::usual::qubit` meets its contract. Assumes nothing.
-use mathlib.Core.Path.{sym, _∙_}
-use Prim.Native.Nat.{_+_}
+use mathlib.Core.Path.{_≡_, sym, _∙_, ap}
+use mathlib.Core.Bool.{Bool, _&&_, cond}
+use Prim.Native.Nat.{ℕ, _+_, _*_, _%_}
 use native.Mathlib.Omega.{arith}
 use borrow.Author.Tests.{not-false}
+use lib.Dec.{leb}
 use lib.ListN.{getD}
-use Rattle.circuit.specs.Lines.{is-digit}
-use Rattle.circuit.proofs.Walk.{and-left, and-right}
-use Rattle.quick_lines.proofs.UsualLines.{digits-few, usual-qubit}
+use Rattle.quick_lines.proofs.UsualLines.{digits-few, usual-qubit, long-qubit}
 use borrow.Author.Needs.{needs}
 use Rattle.quick_lines.proofs.usual.qubit.Statement.{statement}
 use Rattle.quick_lines.proofs.usual.qubit.Tie as tie
@@ -29,6 +29,9 @@ add-second c = search needs
 shared-slice-read-second : tie.Need-shared-slice-read-second
 shared-slice-read-second c = search needs
 
+is-digit-requires : tie.Need-is-digit-requires
+is-digit-requires c κs = search needs
+
 starts-requires : tie.Need-starts-requires
 starts-requires c κs = search needs
 
@@ -38,31 +41,60 @@ returns-2 c = λ h. absurd (omega arith)
 add-if3 : tie.Need-add-if3
 add-if3 c = search needs
 
+shared-slice-read-if3 : tie.Need-shared-slice-read-if3
+shared-slice-read-if3 c = search needs
+
+add-three : tie.Need-add-three
+add-three c = search needs
+
+shared-slice-read-three : tie.Need-shared-slice-read-three
+shared-slice-read-three c = search needs
+
+three-requires : tie.Need-three-requires
+three-requires c κs = search needs
+
+returns-3 : tie.Need-returns-3
+returns-3 c =
+    let a = c .before .before .before .before .before .before .before .before .before .before .before .before .args in
+    let p = c .before .before .before .before .before .before .before .before .before .before .before .before .pre in
+    let begun =
+    ap (λ (b : Bool). leb (getD (a .s .now) (a .at + 1) 0) 57 && leb (48 + cond b 1 0) (getD (a .s .now) (a .at + 1) 0)) (sym (c .before .before .before .before .before .before .is-digit .ensures))
+    ∙ sym (c .before .before .before .before .before .starts .ensures) ∙ not-false (c .before .before .before .before .before .starts .result) (c .before .before .before .before .if2 .left) in
+    λ h.
+    let t = c .three .ensures h in
+    rw (t .1) (long-qubit (a .s .now) (a .at) (a .stop) (p .0) (c .before .before .before .before .before .before .before .before .before .if1 .left) (p .1) begun (c .before .before .if3 .taken) (t .0))
+
+add-if4 : tie.Need-add-if4
+add-if4 c = search needs
+
 width-requires : tie.Need-width-requires
 width-requires c κs = search needs
 
-add-if3-2 : tie.Need-add-if3-2
-add-if3-2 c =
-    let a = c .before .before .before .before .before .before .before .before .args in
-    omega (arith, c .width .ensures, digits-few (getD (a .s .now) (a .at + 2) 0), c .before .before .before .before .before .before .before .before .pre .0)
+add-if4-2 : tie.Need-add-if4-2
+add-if4-2 c =
+    let a = c .before .before .before .before .before .before .before .before .before .before .before .args in
+    omega (arith, c .width .ensures, digits-few (a .s .now) (a .at) (a .stop), c .before .before .before .before .before .before .before .before .before .before .before .pre .0)
 
-shared-slice-read-if3 : tie.Need-shared-slice-read-if3
-shared-slice-read-if3 c =
-    let a = c .before .before .before .before .before .before .before .before .before .args in
-    omega (arith, c .before .width .ensures, digits-few (getD (a .s .now) (a .at + 2) 0), c .before .before .before .before .before .before .before .before .before .pre .0)
-
-returns-3 : tie.Need-returns-3
-returns-3 c = λ h. absurd (omega arith)
-
-value-requires : tie.Need-value-requires
-value-requires c κs = and-left _ _ (sym (c .before .before .before .before .starts .ensures) ∙ not-false (c .before .before .before .before .starts .result) (c .before .before .before .if2 .left))
+shared-slice-read-if4 : tie.Need-shared-slice-read-if4
+shared-slice-read-if4 c =
+    let a = c .before .before .before .before .before .before .before .before .before .before .before .before .args in
+    omega (arith, c .before .width .ensures, digits-few (a .s .now) (a .at) (a .stop), c .before .before .before .before .before .before .before .before .before .before .before .before .pre .0)
 
 returns-4 : tie.Need-returns-4
-returns-4 c =
-    let a = c .before .before .before .before .before .before .before .before .before .before .before .args in
-    let q = sym (c .before .before .before .before .before .starts .ensures) ∙ not-false (c .before .before .before .before .before .starts .result) (c .before .before .before .before .if2 .left) in
-    λ h. rw (c .value .ensures)
-    (usual-qubit (a .s .now) (a .at) (a .stop) (c .before .before .before .before .before .before .before .before .before .before .before .pre .0) (c .before .before .before .before .before .before .before .before .if1 .left) (and-left _ _ q) (and-right (is-digit (getD (a .s .now) (a .at + 1) 0)) _ q) (rw (c .before .before .before .width .ensures) at (c .before .if3 .left)) (c .before .before .before .before .before .before .before .before .before .before .before .pre .1))
+returns-4 c = λ h. absurd (omega arith)
+
+value-requires : tie.Need-value-requires
+value-requires c κs = search needs
+
+returns-5 : tie.Need-returns-5
+returns-5 c =
+    let a = c .before .before .before .before .before .before .before .before .before .before .before .before .before .before .args in
+    let p = c .before .before .before .before .before .before .before .before .before .before .before .before .before .before .pre in
+    let begun =
+    ap (λ (b : Bool). leb (getD (a .s .now) (a .at + 1) 0) 57 && leb (48 + cond b 1 0) (getD (a .s .now) (a .at + 1) 0)) (sym (c .before .before .before .before .before .before .before .before .is-digit .ensures))
+    ∙ sym (c .before .before .before .before .before .before .before .starts .ensures) ∙ not-false (c .before .before .before .before .before .before .before .starts .result) (c .before .before .before .before .before .before .if2 .left) in
+    λ h. rw (c .value .ensures, c .before .before .before .before .before .before .before .before .is-digit .ensures)
+    (usual-qubit (a .s .now) (a .at) (a .stop) (p .0) (c .before .before .before .before .before .before .before .before .before .before .before .if1 .left) (p .1) begun (c .before .before .before .before .if3 .left) (rw (c .before .before .before .width .ensures) at (c .before .if4 .left)))
 
 pub qubit-spec : {M : Type 1} → statement M
 qubit-spec =
@@ -74,12 +106,19 @@ qubit-spec =
     shared-slice-read-first
     add-second
     shared-slice-read-second
+    is-digit-requires
     starts-requires
     returns-2
     add-if3
-    width-requires
-    add-if3-2
     shared-slice-read-if3
+    add-three
+    shared-slice-read-three
+    three-requires
     returns-3
+    add-if4
+    width-requires
+    add-if4-2
+    shared-slice-read-if4
+    returns-4
     value-requires
-    returns-4)
+    returns-5)

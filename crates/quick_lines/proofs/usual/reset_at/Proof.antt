@@ -2,7 +2,6 @@
 use mathlib.Core.Path.{_∙_, ap}
 use Prim.Native.Nat.{ℕ, _+_}
 use native.Mathlib.Omega.{arith}
-use lib.ListN.{getD}
 use Rattle.quick_lines.proofs.UsualLines.{digits-few, usual-reset}
 use borrow.Author.Needs.{needs}
 use Rattle.quick_lines.proofs.usual.reset_at.Statement.{statement}
@@ -35,28 +34,25 @@ returns-3 c = λ h. absurd (omega arith)
 add-width : tie.Need-add-width
 add-width c = search needs
 
-shared-slice-read-width : tie.Need-shared-slice-read-width
-shared-slice-read-width c = search needs
-
 width-requires : tie.Need-width-requires
 width-requires c κs = search needs
 
 add-pack : tie.Need-add-pack
 add-pack c =
-    let a = c .before .before .before .before .before .before .before .before .before .args in
-    omega (arith, c .width .ensures, digits-few (getD (a .s .now) (a .at + 4) 0))
+    let a = c .before .before .before .before .before .before .before .before .args in
+    omega (arith, c .width .ensures, digits-few (a .s .now) (a .at + 2) 10)
 
 pack-requires : tie.Need-pack-requires
 pack-requires c κs =
-    let a = c .before .before .before .before .before .before .before .before .before .args in
-    (omega arith, omega (arith, c .before .before .if3 .left, c .before .before .before .before .before .before .before .before .before .pre .1), omega arith, omega arith, omega (arith, c .width .ensures, digits-few (getD (a .s .now) (a .at + 4) 0)))
+    let a = c .before .before .before .before .before .before .before .before .args in
+    (omega arith, omega (arith, c .before .if3 .left, c .before .before .before .before .before .before .before .before .pre .1), omega arith, omega arith, omega (arith, c .width .ensures, digits-few (a .s .now) (a .at + 2) 10))
 
 returns-4 : tie.Need-returns-4
 returns-4 c =
-    let e = c .before .before .before .before .before .before .before .before .before .before in
+    let e = c .before .before .before .before .before .before .before .before .before in
     let a = e .args in
-    let l = c .before .before .before .if3 .left in
-    λ h. usual-reset (a .s .now) (a .at) (a .n) (e .pre .0) (c .before .before .before .before .qubit .result) (c .pack .result) (c .before .before .before .before .before .before .before .if1 .left) (c .before .before .before .before .before .if2 .left) (c .before .before .before .before .qubit .ensures l) l (c .pack .ensures .1) (c .pack .ensures .2 ∙ ap (λ (w : ℕ). 4 + w) (c .before .width .ensures))
+    let l = c .before .before .if3 .left in
+    λ h. usual-reset (a .s .now) (a .at) (a .n) (e .pre .0) (c .before .before .before .qubit .result) (c .pack .result) (c .before .before .before .before .before .before .if1 .left) (c .before .before .before .before .if2 .left) (c .before .before .before .qubit .ensures l) l (c .pack .ensures .1) (c .pack .ensures .2 ∙ ap (λ (w : ℕ). 4 + w) (c .before .width .ensures))
 
 pub reset-at-spec : {M : Type 1} → statement M
 reset-at-spec =
@@ -71,7 +67,6 @@ reset-at-spec =
     qubit-requires
     returns-3
     add-width
-    shared-slice-read-width
     width-requires
     add-pack
     pack-requires

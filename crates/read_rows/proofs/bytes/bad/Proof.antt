@@ -1,9 +1,10 @@
 -- `read_rows::bytes::bad` meets its contract: the outcomes, and the rows behind them. Assumes nothing.
 use Rattle.read_rows.proofs.Places.{both, look-all}
 use native.Mathlib.Omega.{arith}
-use native.Mathlib.Nat.{mul-le-mul}
 use Prim.Native.Nat.{_*_, _+_, _≤_}
 use Rattle.read_rows.proofs.Places.{in-front, in-back, mark-place, behind-place}
+use Rattle.limits.specs.Limits.{most-qubits}
+use Rattle.records.proofs.Lengths.{square-below}
 use borrow.Author.Needs.{needs}
 use Rattle.read_rows.proofs.bytes.bad.Statement.{statement}
 use Rattle.read_rows.proofs.bytes.bad.Tie as tie
@@ -20,8 +21,8 @@ all-in-rows-requires c κs = search needs
 add-result : tie.Need-add-result
 add-result c = search needs
 
-half : (c : tie.After-all-in-rows) → c .before .before .before .args .n * (c .before .before .before .args .n + 1) ≤ 64 * 65
-half c = mul-le-mul {n₂ = 64} {m₂ = 65} (omega arith) (omega arith)
+half : (c : tie.After-all-in-rows) → c .before .before .before .args .n * (c .before .before .before .args .n + 1) ≤ most-qubits * (most-qubits + 1)
+half c = square-below (c .before .before .before .args .n) {m = most-qubits} (omega arith)
 
 mul-result : tie.Need-mul-result
 mul-result c = omega (arith, half (c .before))

@@ -1,5 +1,6 @@
 -- `read_rows::load::signs` meets its contract: the signs passed are in the word. Assumes nothing.
-use Rattle.read_rows.proofs.Stacks.{Built, built-none, built-more, next-place}
+use Rattle.read_rows.proofs.Stacks.{built-none, built-more, place-inside, next-place}
+use Rattle.read_rows.specs.parts.Loading.{Built}
 use lib.Dec.{eqb}
 use lib.ListN.{getD}
 use native.Mathlib.Omega.{arith}
@@ -10,16 +11,19 @@ use Rattle.read_rows.proofs.load.signs.Statement.{statement}
 use Rattle.read_rows.proofs.load.signs.Tie as tie
 
 abbrev Inv-loop : tie.InvT-loop
-Inv-loop bytes at step n w₀ from₀ i₀ w from i = (i ≤ n) × (from ≡ at + i * step) × Built (λ k. eqb (getD bytes (at + k * step) 0) 45) i w
+Inv-loop bytes at step count w₀ from₀ i₀ w from i = (i ≤ count) × (from ≡ at + i * step) × Built (λ k. eqb (getD bytes (at + k * step) 0) 45) i w
 
 abbrev μ-loop : tie.MeasureT-loop
-μ-loop bytes at step n w₀ from₀ i₀ w from i = n - i
+μ-loop bytes at step count w₀ from₀ i₀ w from i = count - i
 
 loop-holds : tie.Need-loop-holds Inv-loop μ-loop
 loop-holds c = (search needs, omega arith, built-none _)
 
 shared-slice-read-w : tie.Need-shared-slice-read-w Inv-loop μ-loop
-shared-slice-read-w c = omega (arith, c .before .before .before .pre .2 (c .before .before .loop .i) (omega arith))
+shared-slice-read-w c =
+    let l = c .before .before in
+    let e = l .before in
+    omega (arith, place-inside (e .args .at) (e .args .step) (e .args .count) _ (l .loop .i) (e .pre .1) (omega arith))
 
 cast-w : tie.Need-cast-w Inv-loop μ-loop
 cast-w c = search needs
@@ -28,7 +32,10 @@ shl-w : tie.Need-shl-w Inv-loop μ-loop
 shl-w c = search needs
 
 add-from : tie.Need-add-from Inv-loop μ-loop
-add-from c = omega (arith, c .before .before .before .pre .2 (c .before .before .loop .i) (omega arith))
+add-from c =
+    let l = c .before .before in
+    let e = l .before in
+    omega (arith, place-inside (e .args .at) (e .args .step) (e .args .count) _ (l .loop .i) (e .pre .1) (omega arith))
 
 add-i : tie.Need-add-i Inv-loop μ-loop
 add-i c = search needs
@@ -48,7 +55,7 @@ loop-again c =
 returns : tie.Need-returns Inv-loop μ-loop
 returns c =
     let l = c .before .loop in
-    let e : l .i ≡ c .before .before .args .n = omega arith in
+    let e : l .i ≡ c .before .before .args .count = omega arith in
     rw e at (l .inv .2)
 
 pub signs-spec : {M : Type 1} → statement M

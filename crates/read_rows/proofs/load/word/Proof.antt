@@ -1,5 +1,6 @@
 -- `read_rows::load::word` meets its contract: the bytes passed are in the word. Assumes nothing.
 use Rattle.read_rows.proofs.Slices.{Joined, joined-none, joined-more, joined-all}
+use Rattle.limits.specs.Limits.{most-qubits}
 use native.Mathlib.Omega.{arith}
 use mathlib.Core.Path.{_≡_, subst}
 use Prim.Native.Nat.{_+_, _*_, _≤_, _-_}
@@ -26,7 +27,7 @@ shared-slice-read-w : tie.Need-shared-slice-read-w Inv-loop μ-loop
 shared-slice-read-w c = search needs
 
 cast-w : tie.Need-cast-w Inv-loop μ-loop
-cast-w c = omega (arith, c .shared-slice-known .given (64 * c .before .before .loop .r + c .before .before .before .args .j))
+cast-w c = omega (arith, c .shared-slice-known .given (c .before .before .loop .r * most-qubits + c .before .before .before .args .j))
 
 mul-w-2 : tie.Need-mul-w-2 Inv-loop μ-loop
 mul-w-2 c = search needs
@@ -44,7 +45,7 @@ loop-again : tie.Need-loop-again Inv-loop μ-loop
 loop-again c =
     let l = c .before .before in
     let e = l .before .args in
-    (search needs, joined-more (e .plane .now) (e .j) (l .loop .w) (l .loop .r) (search needs) (omega (arith, c .shared-slice-known .given (64 * l .loop .r + e .j))) (l .loop .inv .1))
+    (search needs, joined-more (e .plane .now) (e .j) (l .loop .w) (l .loop .r) (search needs) (omega (arith, c .shared-slice-known .given (l .loop .r * most-qubits + e .j))) (l .loop .inv .1))
 
 returns : tie.Need-returns Inv-loop μ-loop
 returns c =

@@ -1,8 +1,9 @@
 -- `reading::pairs::alone` meets its contract: the word tells of the columns passed. Assumes nothing.
-use Rattle.reading.proofs.Pairing.{passed-none, passed-more}
+use Rattle.reading.proofs.Columns.{passed-none, passed-more}
 use Rattle.reading.specs.parts.Pairs.{Against}
 use lib.ListN.{getD}
 use lib.Bits.{and-le-r}
+use Rattle.limits.specs.Limits.{most-qubits}
 use native.Mathlib.Omega.{arith}
 use mathlib.Core.Path.{_≡_}
 use Prim.Native.Nat.{_/_, _^_, _+_, _≤_, _-_}
@@ -11,13 +12,13 @@ use Rattle.reading.proofs.pairs.alone.Statement.{statement}
 use Rattle.reading.proofs.pairs.alone.Tie as tie
 
 abbrev Inv-loop : tie.InvT-loop
-Inv-loop own n i w₀ j₀ w j = (j ≤ n) × Against own own j i w
+Inv-loop own other n i w₀ j₀ w j = (j ≤ n) × Against own other j i w
 
 abbrev μ-loop : tie.MeasureT-loop
-μ-loop own n i w₀ j₀ w j = n - j
+μ-loop own other n i w₀ j₀ w j = n - j
 
 loop-holds : tie.Need-loop-holds Inv-loop μ-loop
-loop-holds c = (search needs, passed-none (c .args .own .now) (c .args .own .now) (c .args .i))
+loop-holds c = (search needs, passed-none (c .args .own .now) (c .args .other .now) (c .args .i))
 
 mul-x : tie.Need-mul-x Inv-loop μ-loop
 mul-x c = search needs
@@ -44,7 +45,7 @@ shr-z : tie.Need-shr-z Inv-loop μ-loop
 shr-z c = search needs
 
 mul-z-2 : tie.Need-mul-z-2 Inv-loop μ-loop
-mul-z-2 c = omega (arith, and-le-r (getD (c .before .before .before .before .args .own .now) (64 + c .before .before .before .loop .j) 0 / 2 ^ c .before .before .before .before .args .i) 1)
+mul-z-2 c = omega (arith, and-le-r (getD (c .before .before .before .before .args .own .now) (most-qubits + c .before .before .before .loop .j) 0 / 2 ^ c .before .before .before .before .args .i) 1)
 
 add-w : tie.Need-add-w Inv-loop μ-loop
 add-w c = search needs
@@ -71,7 +72,7 @@ loop-again : tie.Need-loop-again Inv-loop μ-loop
 loop-again c =
     let l = c .before .before .before .before .before in
     let e = l .before .args in
-    (search needs, passed-more (e .own .now) (e .own .now) (e .i) (l .loop .w) (l .loop .j) (l .loop .inv .1))
+    (search needs, passed-more (e .own .now) (e .other .now) (e .i) (l .loop .w) (l .loop .j) (l .loop .inv .1))
 
 returns : tie.Need-returns Inv-loop μ-loop
 returns c =

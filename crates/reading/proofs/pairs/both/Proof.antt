@@ -1,8 +1,9 @@
 -- `reading::pairs::both` meets its contract: both words tell of the columns passed. Assumes nothing.
-use Rattle.reading.proofs.Pairing.{passed-none, passed-more}
+use Rattle.reading.proofs.Columns.{passed-none, passed-more}
 use Rattle.reading.specs.parts.Pairs.{Against}
 use lib.ListN.{getD}
 use lib.Bits.{and-le-r}
+use Rattle.limits.specs.Limits.{most-qubits}
 use native.Mathlib.Omega.{arith}
 use mathlib.Core.Path.{_≡_}
 use Prim.Native.Nat.{_/_, _^_, _+_, _≤_, _-_}
@@ -11,13 +12,13 @@ use Rattle.reading.proofs.pairs.both.Statement.{statement}
 use Rattle.reading.proofs.pairs.both.Tie as tie
 
 abbrev Inv-loop : tie.InvT-loop
-Inv-loop own other n i a₀ b₀ j₀ a b j = (j ≤ n) × Against own own j i a × Against own other j i b
+Inv-loop own one other n i a₀ b₀ j₀ a b j = (j ≤ n) × Against own one j i a × Against own other j i b
 
 abbrev μ-loop : tie.MeasureT-loop
-μ-loop own other n i a₀ b₀ j₀ a b j = n - j
+μ-loop own one other n i a₀ b₀ j₀ a b j = n - j
 
 loop-holds : tie.Need-loop-holds Inv-loop μ-loop
-loop-holds c = (search needs, passed-none (c .args .own .now) (c .args .own .now) (c .args .i), passed-none (c .args .own .now) (c .args .other .now) (c .args .i))
+loop-holds c = (search needs, passed-none (c .args .own .now) (c .args .one .now) (c .args .i), passed-none (c .args .own .now) (c .args .other .now) (c .args .i))
 
 mul-x : tie.Need-mul-x Inv-loop μ-loop
 mul-x c = search needs
@@ -44,7 +45,7 @@ shr-z : tie.Need-shr-z Inv-loop μ-loop
 shr-z c = search needs
 
 mul-z-2 : tie.Need-mul-z-2 Inv-loop μ-loop
-mul-z-2 c = omega (arith, and-le-r (getD (c .before .before .before .before .args .own .now) (64 + c .before .before .before .loop .j) 0 / 2 ^ c .before .before .before .before .args .i) 1)
+mul-z-2 c = omega (arith, and-le-r (getD (c .before .before .before .before .args .own .now) (most-qubits + c .before .before .before .loop .j) 0 / 2 ^ c .before .before .before .before .args .i) 1)
 
 add-a : tie.Need-add-a Inv-loop μ-loop
 add-a c = search needs
@@ -87,7 +88,7 @@ loop-again c =
     let l = c .before .before .before .before .before .before .before in
     let e = l .before .args in (
       search needs,
-      passed-more (e .own .now) (e .own .now) (e .i) (l .loop .a) (l .loop .j) (l .loop .inv .1),
+      passed-more (e .own .now) (e .one .now) (e .i) (l .loop .a) (l .loop .j) (l .loop .inv .1),
       passed-more (e .own .now) (e .other .now) (e .i) (l .loop .b) (l .loop .j) (l .loop .inv .2),
     )
 

@@ -1,70 +1,51 @@
--- `reading::pairs::unpaired` meets its contract: the rows passed are no lower rows of a wrong pair. Assumes nothing.
-use Rattle.reading.proofs.WrongPairs.{lower-wrong, all-right}
-use Rattle.packing.specs.View.{rows-of}
-use borrow.Author.Count.{below-none, below-more}
-use mathlib.Core.Bool.{false}
-use mathlib.Core.Path.{_≡_, sym, _∙_}
-use Prim.Native.Nat.{ℕ, _+_, _≤_, _<_, _-_}
+-- `reading::pairs::unpaired` meets its contract. Assumes nothing.
+use native.Mathlib.Omega.{arith}
 use borrow.Author.Needs.{needs}
 use Rattle.reading.proofs.pairs.unpaired.Statement.{statement}
 use Rattle.reading.proofs.pairs.unpaired.Tie as tie
 
-abbrev Inv-loop : tie.InvT-loop
-Inv-loop d s n i₀ i = (i + 1 ≤ n + n) × ((k : ℕ) → k < i → lower-wrong n (rows-of n d s) k ≡ false)
+gathered-requires : tie.Need-gathered-requires
+gathered-requires c κs = search needs
 
-abbrev μ-loop : tie.MeasureT-loop
-μ-loop d s n i₀ i = n + n - i
+gathered-requires-2 : tie.Need-gathered-requires-2
+gathered-requires-2 c κs = search needs
 
-loop-holds : tie.Need-loop-holds Inv-loop μ-loop
-loop-holds c = (search needs, below-none _)
+first-wrong-requires : tie.Need-first-wrong-requires
+first-wrong-requires c κs = search needs
 
-add-loop : tie.Need-add-loop Inv-loop μ-loop
-add-loop c = search needs
-
-add-loop-2 : tie.Need-add-loop-2 Inv-loop μ-loop
-add-loop-2 c = search needs
-
-wrong-requires : tie.Need-wrong-requires Inv-loop μ-loop
-wrong-requires c κs = search needs
-
-returns : tie.Need-returns Inv-loop μ-loop
+returns : tie.Need-returns
 returns c =
-    let l = c .before .before .before .loop in
-    record { within = search needs; before = l .inv .1; here = λ h. sym (c .before .wrong .ensures) ∙ c .if1 .taken }
+    let g = c .before .before .before .before .before .before in
+    let e = g .before .before in
+    c .first-wrong .ensures (e .args .w .now) (e .pre .2)
+    (record { first = g .before .gathered .ensures; second = λ h. absurd (omega arith); third = g .gathered2 .ensures; fourth = λ h. absurd (omega arith) })
 
-add-i : tie.Need-add-i Inv-loop μ-loop
-add-i c = search needs
+gathered-requires-3 : tie.Need-gathered-requires-3
+gathered-requires-3 c κs = search needs
 
-loop-less : tie.Need-loop-less Inv-loop μ-loop
-loop-less c = search needs
+gathered-requires-4 : tie.Need-gathered-requires-4
+gathered-requires-4 c κs = search needs
 
-loop-again : tie.Need-loop-again Inv-loop μ-loop
-loop-again c =
-    let l = c .before .before .before .loop in
-    (search needs, below-more _ _ (l .inv .1) (sym (c .before .wrong .ensures) ∙ c .if1 .left))
+first-wrong-requires-2 : tie.Need-first-wrong-requires-2
+first-wrong-requires-2 c κs = search needs
 
-add-result : tie.Need-add-result Inv-loop μ-loop
-add-result c = search needs
-
-returns-2 : tie.Need-returns-2 Inv-loop μ-loop
+returns-2 : tie.Need-returns-2
 returns-2 c =
-    let l = c .before .loop in
-    let e = c .before .before .args in
-    all-right (e .n) (rows-of (e .n) (e .d .now) (e .s .now)) (l .i) (search needs) (l .inv .1)
+    let f = c .before .before .before .before .before in
+    let g = f .before .before .before in
+    let e = g .before .before in
+    c .first-wrong2 .ensures (e .args .w .now) (e .pre .2)
+    (record { first = g .before .gathered .ensures; second = λ h. f .before .gathered3 .ensures; third = g .gathered2 .ensures; fourth = λ h. f .gathered4 .ensures })
 
 pub unpaired-spec : {M : Type 1} → statement M
 unpaired-spec =
     tie.close
     (tie.spec
-    Inv-loop
-    μ-loop
-    loop-holds
-    add-loop
-    add-loop-2
-    wrong-requires
+    gathered-requires
+    gathered-requires-2
+    first-wrong-requires
     returns
-    add-i
-    loop-less
-    loop-again
-    add-result
+    gathered-requires-3
+    gathered-requires-4
+    first-wrong-requires-2
     returns-2)

@@ -1,0 +1,3 @@
+pub mod Bitwise
+pub mod Columns
+pub mod Loop

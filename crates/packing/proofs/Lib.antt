@@ -1,0 +1,3 @@
+pub mod Groups
+pub mod Views
+pub mod Determined
