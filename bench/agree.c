@@ -80,9 +80,11 @@ static u64 damage_text(u8 *text, u64 length)
 /* A line that is refused for another reason than a changed byte, at the back of the text. */
 static u64 add_line(u8 *text, u64 length)
 {
-    static const char *const lines[] = { "CX 0 0\n", "CZ 0 0\n", "CX 64 64\n", "H 99\n", "M 100\n",
-                                         "CX 0 1000\n", "H 0", "C", "\n", "S 00\n", "Q 1\n", "MR 64\n",
-                                         "MR\n", "MR 0", "M", "MR", "MRR 0\n", "R 0\n", "HR 0\n" };
+    static const char *const lines[] = { "CX 0 0\n", "CZ 0 0\n", "CX 128 128\n", "H 99\n", "M 100\n", "S 128\n",
+                                         "CX 0 1000\n", "CX 1000 0\n", "CZ 0 127\n", "CX 127 126\n", "CX 127 126",
+                                         "H 0", "C", "\n", "S 00\n", "S 012\n", "X 1 7\n", "X 12:\n", "Q 1\n",
+                                         "MR 64\n", "MR 128\n", "MR\n", "MR 0", "M", "MR", "MRR 0\n", "R 0\n",
+                                         "HR 0\n" };
     for (const char *from = lines[draw(sizeof lines / sizeof *lines)]; *from; from++)
         text[length++] = (u8)*from;
     return length;
@@ -104,8 +106,8 @@ static u64 add_resets(u8 *text, u64 length)
 
 static u64 draw_qubits(void)
 {
-    static const u64 often[] = { 1, 2, 63, 64 };
-    return draw(3) ? 1 + draw(MOST_QUBITS) : often[draw(4)];
+    static const u64 often[] = { 1, 2, 63, 64, 65, 97, 127, 128 };
+    return draw(2) ? 1 + draw(MOST_QUBITS) : often[draw(sizeof often / sizeof *often)];
 }
 
 static u64 make_text(u8 *text)
@@ -153,12 +155,49 @@ static int agree_records(u8 *record, u64 length, u64 seen[14])
     return good && agree_same(record, length, other, total) && agree_same(other, total, record, length);
 }
 
+/* Bytes that say they are a record of n qubits, right to the trailer, with rows of I. */
+static u64 make_shell(u8 *to, u64 n)
+{
+    u64 length = RECORD(n, 0), rows = length - TRAILER;
+    memset(to, 'I', rows);
+    for (u64 i = 0; i < 2 * n; i++)
+        to[i * ROW(n)] = '+';
+    memset(to + rows, 0, TRAILER);
+    for (u64 k = 0; k < 4; k++)
+        to[rows + k] = to[rows + 4 + k] = (u8)(length >> 8 * k);
+    to[rows + 8] = (u8)n;
+    to[rows + 10] = 0x53;
+    to[rows + 11] = 0x52;
+    return length;
+}
+
+/* At either end of what is allowed: circuits of n qubits are accepted or 2, records of n qubits that are
+   not paired 11 or 9, rows of n letters accepted or 13. */
+static int agree_limits(void)
+{
+    static const u64 sizes[] = { 0, 1, MOST_QUBITS, MOST_QUBITS + 1 };
+    static u8 bytes[RECORD(MOST_QUBITS + 1, 0)], out[ROW(MOST_QUBITS + 1)];
+    u64 number, answer[2];
+    int good = 1;
+    for (u64 k = 0; k < 4; k++) {
+        u64 n = sizes[k], outside = n - 1 >= MOST_QUBITS, length = make_hadamards(bytes, n, outside ? 0 : n);
+        good &= agree_run(bytes, length, bytes, 0, ROOM, &number) && agree_check(bytes, length);
+        good &= number == (outside ? 2 : 0);
+        good &= agree_read(bytes, make_shell(bytes, n), &number) && number == (outside ? 9 : 11);
+        number = senghovai_product(bytes, ROW(n), bytes, ROW(n), out, sizeof out, answer);
+        good &= number == (outside ? 13 : 0) && answer[1] == (outside ? 0 : ROW(n));
+    }
+    return good;
+}
+
 int agree_all(u64 circuits, u64 seen[14])
 {
     static u8 text[MOST_TEXT + 64], coins[MOST_OPS], record[ROOM];
     u64 answer[6], number;
     memset(seen, 0, 14 * sizeof *seen);
     seed(1);
+    if (!agree_limits())
+        return 0;
     for (u64 i = 0; i < circuits; i++) {
         u64 length = make_text(text), coins_len = draw(4) ? MOST_OPS : draw(60);
         u64 record_len = draw(6) ? ROOM : draw(LONGEST_RECORD);

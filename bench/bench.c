@@ -25,7 +25,7 @@ enum { COPIES = 8 };
 typedef struct {
     const char *name;
     Task task;
-    u64 length[COPIES];
+    u64 n, length[COPIES];
     u8 bytes[COPIES][MOST_TEXT], other[COPIES][LONGEST_RECORD];
 } Workload;
 
@@ -138,13 +138,14 @@ static const char *goal(int reached) { return reached ? "yes" : "no"; }
 /* `wanted` is how many times as fast as rows.c the library is to be. */
 static int print_row(const Workload *w, const Figures *f, double wanted)
 {
+    printf("| %s | %lu | ", w->name, w->n);
     if (takes_part(w, ROWS))
-        printf("| %s | %.3f | %s | %.2f | %s |\n", w->name, f->to_rows, goal(f->to_rows * wanted < 1), f->to_best,
-               goal(f->to_best <= 2));
+        printf("%.3f | %s", f->to_rows, goal(f->to_rows * wanted < 1));
     else
-        printf("| %s | - | - | %.2f | %s |\n", w->name, f->to_best, goal(f->to_best <= 2));
+        printf("- | -");
+    printf(" | %.2f | %s |\n", f->to_best, goal(f->to_best <= (w->n <= 64 ? 2 : 1.6)));
     if (!f->agreed)
-        printf("\nTHE ANSWERS DIFFER on: %s\n\n", w->name);
+        printf("\nTHE ANSWERS DIFFER on: %s, %lu qubits\n\n", w->name, w->n);
     return f->agreed;
 }
 
@@ -154,8 +155,8 @@ static u64 gates(u8 *to, u64 n) { return make_mixed(to, n, MOST_OPS, 0); }
 static u64 hadamards(u8 *to, u64 n) { return make_hadamards(to, n, MOST_OPS); }
 static u64 mixed(u8 *to, u64 n) { return make_mixed(to, n, MOST_OPS, 4); }
 static u64 alternate(u8 *to, u64 n) { return make_alternate(to, n, MOST_OPS); }
-static u64 surface(u8 *to, u64 n) { return (void)n, make_surface(to, "M"); }
-static u64 surface_reset(u8 *to, u64 n) { return (void)n, make_surface(to, "MR"); }
+static u64 surface(u8 *to, u64 n) { return make_surface(to, n == 49 ? 5 : 7, "M"); }
+static u64 surface_reset(u8 *to, u64 n) { return make_surface(to, n == 49 ? 5 : 7, "MR"); }
 
 static Workload work;
 
@@ -163,6 +164,7 @@ static Figures measure_texts(const char *name, Task task, Make *make, u64 n, dou
 {
     work.name = name;
     work.task = task;
+    work.n = n;
     for (u64 k = 0; k < COPIES; k++) {
         seed(2026 + k);
         work.length[k] = make(work.bytes[k], n);
@@ -170,14 +172,14 @@ static Figures measure_texts(const char *name, Task task, Make *make, u64 n, dou
     return measure(&work, limit);
 }
 
-static Figures measure_records(const char *name, Task task, double limit)
+static Figures measure_records(const char *name, Task task, u64 n, double limit)
 {
     work.name = name;
     work.task = task;
+    work.n = n;
     for (u64 k = 0; k < COPIES; k++) {
-        make_longest(work.bytes[k], k, 100 + k);
-        make_longest(work.other[k], k, 200 + k);
-        work.length[k] = LONGEST_RECORD;
+        work.length[k] = make_longest(work.bytes[k], n, k, 100 + k);
+        make_longest(work.other[k], n, k, 200 + k);
     }
     return measure(&work, limit);
 }
@@ -189,39 +191,45 @@ static int table(double limit)
         Task task;
         Make *make;
         double wanted;
+        u64 sizes[3];
     } all[] = {
-        { "gates only", DO_RUN, gates, 5 },
-        { "nothing but H", DO_RUN, hadamards, 5 },
-        { "gates and measurements mixed", DO_RUN, mixed, 1 },
-        { "a measurement after every gate", DO_RUN, alternate, 1 },
-        { "surface patch, distance 5, 32 rounds", DO_RUN, surface, 1 },
-        { "surface patch with MR, distance 5, 32 rounds", DO_RUN, surface_reset, 1 },
-        { "check of the mixed text", DO_CHECK, mixed, 0.5 },
-        { "reading a longest record", DO_READ, 0, 1 },
-        { "comparing two longest records", DO_SAME, 0, 1 },
+        { "gates only", DO_RUN, gates, 5, { 64, 97, 128 } },
+        { "nothing but H", DO_RUN, hadamards, 5, { 64, 97, 128 } },
+        { "gates and measurements mixed", DO_RUN, mixed, 1, { 64, 97, 128 } },
+        { "a measurement after every gate", DO_RUN, alternate, 1, { 64, 97, 128 } },
+        { "surface patch, distance 5, 32 rounds", DO_RUN, surface, 1, { 49 } },
+        { "surface patch with MR, distance 5, 32 rounds", DO_RUN, surface_reset, 1, { 49 } },
+        { "surface patch, distance 7, 15 rounds", DO_RUN, surface, 1, { 97 } },
+        { "surface patch with MR, distance 7, 15 rounds", DO_RUN, surface_reset, 1, { 97 } },
+        { "check of the mixed text", DO_CHECK, mixed, 0.5, { 64, 97, 128 } },
+        { "reading a longest record", DO_READ, 0, 1, { 64, 128 } },
+        { "comparing two longest records", DO_SAME, 0, 1, { 64, 128 } },
     };
     int agreed = 1;
-    printf("| workload | library / rows.c | goal | library / best.c | goal |\n|---|---|---|---|---|\n");
-    for (u64 k = 0; k < sizeof all / sizeof *all; k++) {
-        Figures f = all[k].make ? measure_texts(all[k].name, all[k].task, all[k].make, MOST_QUBITS, limit)
-                                : measure_records(all[k].name, all[k].task, limit);
-        agreed &= print_row(&work, &f, all[k].wanted);
-    }
+    printf("| workload | qubits | library / rows.c | goal | library / best.c | goal |\n|---|---|---|---|---|---|\n");
+    for (u64 k = 0; k < sizeof all / sizeof *all; k++)
+        for (u64 i = 0; i < 3 && all[k].sizes[i]; i++) {
+            u64 n = all[k].sizes[i];
+            Figures f = all[k].make ? measure_texts(all[k].name, all[k].task, all[k].make, n, limit)
+                                    : measure_records(all[k].name, all[k].task, n, limit);
+            agreed &= print_row(&work, &f, all[k].wanted);
+        }
     return agreed;
 }
 
 static int growth(double limit)
 {
+    static const u64 sizes[] = { 8, 16, 32, 64, 97, 128 };
     double first[PROGRAMS] = { 0 };
     int agreed = 1;
     printf("\n| qubits | library / rows.c | library / best.c | library's growth | rows.c's growth | best.c's growth |\n"
            "|---|---|---|---|---|---|\n");
-    for (u64 n = 8; n <= MOST_QUBITS; n *= 2) {
-        Figures f = measure_texts("growth", DO_RUN, mixed, n, limit);
-        for (int k = 0; k < PROGRAMS && n == 8; k++)
+    for (u64 i = 0; i < sizeof sizes / sizeof *sizes; i++) {
+        Figures f = measure_texts("growth", DO_RUN, mixed, sizes[i], limit);
+        for (int k = 0; k < PROGRAMS && i == 0; k++)
             first[k] = f.median[k];
-        printf("| %lu | %.3f | %.2f | %.2f | %.2f | %.2f |\n", n, f.to_rows, f.to_best, f.median[LIBRARY] / first[LIBRARY],
-               f.median[ROWS] / first[ROWS], f.median[BEST] / first[BEST]);
+        printf("| %lu | %.3f | %.2f | %.2f | %.2f | %.2f |\n", sizes[i], f.to_rows, f.to_best,
+               f.median[LIBRARY] / first[LIBRARY], f.median[ROWS] / first[ROWS], f.median[BEST] / first[BEST]);
         agreed &= f.agreed;
     }
     return agreed;

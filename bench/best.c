@@ -1,13 +1,17 @@
 /* Baseline 2: the fastest plain C that we could write for the run, with no proof. The tableau is
    packed by columns and changed in place: a gate is a few operations on the columns of its qubits,
-   for destabilizers and stabilizers side by side in a pair of words; the gates on one qubit differ
-   only in the masks of a table, so none of them branches. A random measurement treats all rows at
-   once with counters modulo 4 that are sliced into two words of bits; a fixed one is one pass over
-   the columns, and none at all when the product has one factor. Columns in which row p, or the
-   product, has nothing to do are passed over. The text is run while it is scanned; what is found
-   too late (no coin, a short buffer) is judged after the rest of the text. */
+   for all rows side by side; the gates on one qubit differ only in the masks of a table, so none of
+   them branches. A random measurement treats all rows at once with counters modulo 4 that are sliced
+   into two words of bits; a fixed one is one pass over the columns, and none at all when the product
+   has one factor. Columns in which row p, or the product, has nothing to do are passed over. The text
+   is run while it is scanned; what is found too late (no coin, a short buffer) is judged after the
+   rest of the text. Up to 64 qubits everything is done with one pair of words, as if there were no
+   more: with two pairs, runs on 8 to 64 qubits took 1.02 to 1.06 times as long on an Arm processor and
+   1.17 to 1.66 times as long under the emulator. */
 #include "best.h"
 
+/* The gates on one qubit: where signs turn by x and z both, by x, by z; where x is added to z; where x
+   and z change places. */
 typedef struct {
     u64 known;
     Pair both, x, z, add, swap;
@@ -23,59 +27,77 @@ static const Masks masks[32] = {
     ['Z' % 32] = { 1, NONE, ALL, NONE, NONE, NONE },
 };
 
-static inline void gate_one(Tableau *t, const Masks *m, u64 a)
+ALWAYS Pair *column(Tableau *t, u64 pairs, u64 j) { return t->w + 2 * pairs * j; }
+
+ALWAYS void gate_one(Tableau *t, u64 pairs, const Masks *m, u64 q)
 {
-    Column *c = &t->column[a];
-    Pair x = c->w[0], z = c->w[1], turn = (x ^ z) & m->swap;
-    t->minus ^= (x & z & m->both) ^ (x & m->x) ^ (z & m->z);
-    c->w[0] = x ^ turn;
-    c->w[1] = z ^ turn ^ (x & m->add);
+    Pair *c = column(t, pairs, q);
+    for (u64 k = 0; k < pairs; k++) {
+        Pair x = c[k], z = c[pairs + k], turn = (x ^ z) & m->swap;
+        t->minus[k] ^= (x & z & m->both) ^ (x & m->x) ^ (z & m->z);
+        c[k] = x ^ turn;
+        c[pairs + k] = z ^ turn ^ (x & m->add);
+    }
 }
 
 /* CX and CZ are one rule: CX acts on b's z and x as CZ acts on b's x and z. */
-static inline void gate_two(Tableau *t, u64 is_cx, u64 a, u64 b)
+ALWAYS void gate_two(Tableau *t, u64 pairs, u64 is_cx, u64 a, u64 b)
 {
-    Column *c = &t->column[a], *d = &t->column[b];
-    Pair x = c->w[0], z = c->w[1], u = d->w[is_cx], v = d->w[1 - is_cx];
-    t->minus ^= x & u & (v ^ z ^ (0 - is_cx));
-    c->w[1] = z ^ u;
-    d->w[1 - is_cx] = v ^ x;
+    Pair *c = column(t, pairs, a), *d = column(t, pairs, b);
+    Pair *from = d + pairs * is_cx, *to = d + pairs * (1 - is_cx);
+    for (u64 k = 0; k < pairs; k++) {
+        Pair x = c[k], z = c[pairs + k], u = from[k], v = to[k];
+        t->minus[k] ^= x & u & (v ^ z ^ (0 - is_cx));
+        c[pairs + k] = z ^ u;
+        to[k] = v ^ x;
+    }
 }
 
-typedef long Signed __attribute__((vector_size(16)));
-/* The stabilizers' bit that `up` steps bring to the top, as all bits of both words. */
-static inline Pair everywhere(Pair w, u64 up)
+/* Bit p, as all bits of both words. */
+ALWAYS Pair everywhere(u64 w, u64 p)
 {
-    Signed top = (Signed)(w << up) >> 63;
-    return (Pair)__builtin_shufflevector(top, top, 1, 1);
+    static const Pair all[2] = { NONE, ALL };
+    return all[w >> p & 1];
 }
 
-static void measure_random(Tableau *t, u64 n, u64 a, u64 coin)
+/* Row p is bit `p` of pair g's stabilizers, and in every column where it has a letter it multiplies the
+   rows in `mask`: `high` and `low` count the powers of i. Its partner takes its letters over, and so,
+   by the same step, row p itself becomes empty. */
+ALWAYS void measure_random(Tableau *t, u64 pairs, u64 g, u64 n, u64 q, u64 coin)
 {
-    Pair at = t->column[a].w[0];
-    u64 p = (u64)__builtin_ctzl(at[1]), bit = 1ul << p;
-    Pair mask = at & ~bit, take = mask | (Pair){ bit, 0 }, low = { 0, 0 }, high = { 0, 0 };
-    u64 minus = t->minus[1] >> p & 1;
+    Pair *at = column(t, pairs, q), mask[2], take[2], low[2] = { NONE, NONE }, high[2] = { NONE, NONE };
+    u64 p = (u64)__builtin_ctzl(at[g][1]), bit = 1ul << p, minus = t->minus[g][1] >> p & 1;
+    for (u64 k = 0; k < pairs; k++)
+        mask[k] = take[k] = at[k];
+    mask[g] &= ~bit;
+    take[g][0] |= bit;
     for (u64 j = 0; j < n; j++) {
-        Column *c = &t->column[j];
-        Pair x = c->w[0], z = c->w[1];
-        if (!((x[1] | z[1]) & bit)) {
-            c->w[0] = x & ~bit;
-            c->w[1] = z & ~bit;
+        Pair *c = column(t, pairs, j);
+        u64 *d = (u64 *)(c + g), of_x = d[1], of_z = d[2 * pairs + 1];
+        if (!((of_x | of_z) & bit)) {
+            d[0] &= ~bit;
+            d[2 * pairs] &= ~bit;
             continue;
         }
-        Pair u = everywhere(x, 63 - p), v = everywhere(z, 63 - p);
-        Pair anti = (x & v) ^ (z & u), three = (x ^ z ^ (u ^ v) ^ (x & v)) & anti;
-        high ^= (low & anti) ^ three;
-        low ^= anti;
-        c->w[0] = (x & ~bit) ^ (u & take);
-        c->w[1] = (z & ~bit) ^ (v & take);
+        Pair u = everywhere(of_x, p), v = everywhere(of_z, p), partner = { ~bit, ~0ul };
+        for (u64 k = 0; k < pairs; k++) {
+            Pair x = c[k], z = c[pairs + k], both = x & v, anti = both ^ (z & u);
+            Pair new_x = (k == g ? x & partner : x) ^ (u & take[k]), new_z = (k == g ? z & partner : z) ^ (v & take[k]);
+            high[k] ^= anti & (low[k] ^ both ^ new_x ^ new_z);
+            low[k] ^= anti;
+            c[k] = new_x;
+            c[pairs + k] = new_z;
+        }
     }
-    t->column[a].w[1][1] |= bit;
-    t->minus = (t->minus ^ (mask & (high ^ (0 - minus)))) & ~bit;
-    t->minus[0] |= minus << p;
-    t->minus[1] |= coin << p;
+    at[pairs + g][1] |= bit;
+    for (u64 k = 0; k < pairs; k++)
+        t->minus[k] ^= mask[k] & (high[k] ^ (0 - minus));
+    t->minus[g] = (t->minus[g] & ~bit) | (Pair){ minus << p, coin << p };
 }
+
+NEVER void random_narrow(Tableau *t, u64 n, u64 q, u64 coin) { measure_random(t, 1, 0, n, q, coin); }
+NEVER void random_low(Tableau *t, u64 n, u64 q, u64 coin) { measure_random(t, 2, 0, n, q, coin); }
+NEVER void random_high(Tableau *t, u64 n, u64 q, u64 coin) { measure_random(t, 2, 1, n, q, coin); }
 
 /* The parity of each bit and all below it. */
 static inline u64 parities(u64 w)
@@ -92,27 +114,59 @@ static inline u64 parities(u64 w)
    has an even number of x bits and adds no power of i beyond those of its letters Y and of the
    places where a z stands before an x. The total is even, hence so is the number of letters Y, and
    a Y may count as standing before itself. */
-static u64 measure_fixed(const Tableau *t, u64 n, u64 a)
+static u64 fixed_one(const Pair *w, u64 pairs, u64 n, u64 rows, u64 minus)
 {
-    u64 rows = t->column[a].w[0][0], low = 0, high = 0;
-    if (!(rows & (rows - 1)))
-        return (t->minus[1] & rows) != 0;
-    for (u64 j = 0; j < n; j++) {
-        u64 x = t->column[j].w[0][1] & rows, z = t->column[j].w[1][1] & rows, y = x & z;
+    u64 low = 0, high = 0;
+    for (u64 j = 0; j < n; j++, w += 2 * pairs) {
+        u64 x = w[0][1] & rows;
         if (!x)
             continue;
+        u64 z = w[pairs][1] & rows, y = x & z;
         high ^= (low & y) ^ (parities(z) & x);
         low ^= y;
     }
     u64 ones = (u64)__builtin_popcountl(low) / 2;
-    return (ones + (u64)__builtin_popcountl(high ^ (t->minus[1] & rows))) & 1;
+    return (ones + (u64)__builtin_popcountl(high ^ (minus & rows))) & 1;
 }
 
-static void start(Tableau *t, u64 n)
+/* The same where rows from 64 on take part. Their order is free, since they commute: row 64 + i comes
+   right behind row i. Then one pass over the sums of both words finds every z before an x, but for
+   those of a row 64 + i before the x of row i, which it counts and must not. */
+static u64 fixed_two(const Pair *w, u64 n, u64 rows0, u64 rows1, u64 minus0, u64 minus1)
 {
-    memset(t, 0, sizeof *t);
+    u64 low = 0, high = 0;
+    for (u64 j = 0; j < n; j++, w += 4) {
+        u64 x0 = w[0][1] & rows0, x1 = w[1][1] & rows1;
+        if (!(x0 | x1))
+            continue;
+        u64 z0 = w[2][1] & rows0, z1 = w[3][1] & rows1, y0 = x0 & z0, y1 = x1 & z1, sum = low ^ y0;
+        high ^= (low & y0) ^ (sum & y1) ^ (parities(z0 ^ z1) & (x0 ^ x1)) ^ (z1 & x0);
+        low = sum ^ y1;
+    }
+    u64 ones = (u64)__builtin_popcountl(low) / 2;
+    return (ones + (u64)__builtin_popcountl(high ^ (minus0 & rows0) ^ (minus1 & rows1))) & 1;
+}
+
+ALWAYS u64 measure_fixed(Tableau *t, u64 pairs, u64 n, u64 q)
+{
+    const Pair *c = column(t, pairs, q);
+    u64 rows = c[0][0], last = pairs == 2 ? c[1][0] : 0;
+    if (!last)
+        return rows & (rows - 1) ? fixed_one(t->w, pairs, n, rows, t->minus[0][1]) : (t->minus[0][1] & rows) != 0;
+    if (!rows && !(last & (last - 1)))
+        return (t->minus[1][1] & last) != 0;
+    return fixed_two(t->w, n, rows, last, t->minus[0][1], t->minus[1][1]);
+}
+
+ALWAYS void start(Tableau *t, u64 pairs, u64 n)
+{
     for (u64 j = 0; j < n; j++)
-        t->column[j].w[0][0] = t->column[j].w[1][1] = 1ul << j;
+        for (u64 k = 0; k < pairs; k++) {
+            u64 own = j / WORD == k ? 1ul << j % WORD : 0;
+            column(t, pairs, j)[k] = (Pair){ own, 0 };
+            column(t, pairs, j)[pairs + k] = (Pair){ 0, own };
+        }
+    t->minus[0] = t->minus[1] = (Pair)NONE;
 }
 
 typedef struct {
@@ -121,10 +175,11 @@ typedef struct {
     u8 outcomes[MOST_OPS];
 } Log;
 
-static inline int measure(Tableau *t, u64 n, u64 a, Log *log)
+ALWAYS int measure(Tableau *t, u64 pairs, u64 n, u64 q, Log *log)
 {
-    if (!t->column[a].w[0][1]) {
-        log->outcomes[log->measured++] = (u8)('0' + measure_fixed(t, n, a));
+    const Pair *c = column(t, pairs, q);
+    if (!(c[0][1] | (pairs == 2 ? c[1][1] : 0))) {
+        log->outcomes[log->measured++] = (u8)('0' + measure_fixed(t, pairs, n, q));
         return 1;
     }
     if (!log->left) {
@@ -133,38 +188,49 @@ static inline int measure(Tableau *t, u64 n, u64 a, Log *log)
     }
     u64 coin = log->coins[log->taken++] & 1;
     log->left--;
-    measure_random(t, n, a, coin);
+    (pairs == 1 ? random_narrow : c[0][1] ? random_low : random_high)(t, n, q, coin);
     log->outcomes[log->measured++] = (u8)('2' + coin);
     return 1;
 }
 
-/* X on a where the value is 1, with no jump, which the processor could not guess. */
-static inline void turn_if(Tableau *t, u64 a, u64 value) { t->minus ^= t->column[a].w[1] & (0 - value); }
+/* X on q where the value is 1, with no jump, which the processor could not guess. */
+ALWAYS void turn_if(Tableau *t, u64 pairs, u64 q, u64 value)
+{
+    for (u64 k = 0; k < pairs; k++)
+        t->minus[k] ^= column(t, pairs, q)[pairs + k] & (0 - value);
+}
 
 /* Runs as far as text and coins go: the number of operations done, all of them or fewer. */
-static u64 run_text(Tableau *t, Scan *s, Log *log)
+ALWAYS u64 run_text(Tableau *t, u64 pairs, u64 digits, Scan *s, Log *log)
 {
-    u64 a, b, done = 0;
-    for (; more(s) && done < MOST_OPS; done++) {
-        u8 c = *s->at, second = s->at[1];
+    const u8 *at = s->at;
+    u64 a, b, done = 0, n = s->n;
+    start(t, pairs, n);
+    for (; more(s, &at) && done < MOST_OPS; done++) {
+        u8 c = *at, second = at[1];
         const Masks *m = &masks[c % 32];
         if (c == 'C') {
-            if (!take_two(s, &a, &b))
+            if (!take_two(&at, digits, n, &a, &b))
                 break;
-            gate_two(t, second == 'X', a, b);
+            gate_two(t, pairs, second == 'X', a, b);
         } else if (c == 'M') {
-            u64 reset = is_reset(s);
-            if (!take_one(s, reset, &a) || !measure(t, s->n, a, log))
+            u64 reset = is_reset(at);
+            if (!take_one(&at, digits, n, reset, &a) || !measure(t, pairs, n, a, log))
                 break;
-            turn_if(t, a, reset & log->outcomes[log->measured - 1]);
+            turn_if(t, pairs, a, reset & log->outcomes[log->measured - 1]);
         } else {
-            if ((c >> 5 != 2) | !m->known || !take_one(s, 0, &a))
+            if ((c >> 5 != 2) | !m->known || !take_one(&at, digits, n, 0, &a))
                 break;
-            gate_one(t, m, a);
+            gate_one(t, pairs, m, a);
         }
     }
+    s->at = at;
     return done;
 }
+
+NEVER u64 run_narrow(Tableau *t, Scan *s, Log *log) { return run_text(t, 1, 2, s, log); }
+NEVER u64 run_middle(Tableau *t, Scan *s, Log *log) { return run_text(t, 2, 2, s, log); }
+NEVER u64 run_wide(Tableau *t, Scan *s, Log *log) { return run_text(t, 2, 3, s, log); }
 
 static u64 refuse(u64 number, u64 place, u64 coins_len, u64 answer[6])
 {
@@ -185,16 +251,15 @@ u64 best_run(const u8 *circuit, u64 circuit_len, const u8 *coins, u64 coins_len,
     log.left = coins_len;
     log.measured = log.taken = log.missing = 0;
     if (!number) {
-        start(&t, s.n);
-        done = run_text(&t, &s, &log);
+        done = (pairs_of(s.n) == 1 ? run_narrow : digits_of(s.n) == 2 ? run_middle : run_wide)(&t, &s, &log);
         whole = s.at == s.end && !log.missing;
     }
-    u64 length = record_length(s.n, log.measured);
+    u64 length = RECORD(s.n, log.measured);
     if (!whole || record_len < length) {
         Verdict v = best_verdict(circuit, circuit_len);
         if (v.number)
             return refuse(v.number, v.place, coins_len, answer);
-        int is_short = record_len < record_length(v.n, v.measured);
+        int is_short = record_len < RECORD(v.n, v.measured);
         return refuse(is_short ? 8 : 7, is_short ? 0 : done + 2, coins_len, answer);
     }
     best_write(&t, s.n, log.outcomes, log.measured, record);

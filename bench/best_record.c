@@ -1,75 +1,11 @@
-/* Records for baseline 2: written, read back and checked, compared. Letters are made and taken
-   apart eight at a time in one word. The rows of a record are checked for proper pairing with all
-   rows at once: which rows anticommute with row i is the sum of the columns that its letters
-   choose, and the sums of every four columns are made beforehand, so that a row needs 32 of them. */
+/* Records for baseline 2: read back and checked, compared. The letters of a row are taken apart
+   sixteen at a time in one register. The rows are checked for proper pairing with all rows at once:
+   which rows anticommute with row i is the sum of the columns that its letters choose, and the sums
+   of every four columns are made beforehand, so that a row needs two of them for every four qubits. A
+   stabilizer is held to the stabilizers alone when these have a pair of words for themselves. */
 #include "best.h"
 
-enum { LETTERS = 8, GROUPS = MOST_QUBITS / 4 };
-
-#define EACH 0x0101010101010101ul
-
-/* Exchanges rows and columns of a square of 64 times 64 bits. */
-static void transpose(u64 m[64])
-{
-    u64 mask = 0x00000000FFFFFFFFul;
-    for (u64 step = 32; step; step >>= 1, mask ^= mask << step)
-        for (u64 k = 0; k < 64; k = ((k | step) + 1) & ~step) {
-            u64 swap = ((m[k] >> step) ^ m[k | step]) & mask;
-            m[k] ^= swap << step;
-            m[k | step] ^= swap;
-        }
-}
-
-/* Bit k of a byte becomes byte k of a word. */
-static inline u64 spread(u64 byte)
-{
-    return ((((byte & 255) * EACH & 0x8040201008040201ul) + 0x7F * EACH) >> 7) & EACH;
-}
-
-static inline u64 gather(u64 word) { return word * 0x0102040810204080ul >> 56; }
-
-static inline u64 letters(u64 x, u64 z)
-{
-    return 0x49 * EACH ^ x * 0x11 ^ z * 0x13 ^ (x & z) * 0x12;
-}
-
-static u8 *write_rows(const Tableau *t, int group, u64 n, u8 *to)
-{
-    u64 x[64], z[64];
-    for (u64 j = 0; j < 64; j++) {
-        x[j] = t->column[j].w[0][group];
-        z[j] = t->column[j].w[1][group];
-    }
-    transpose(x);
-    transpose(z);
-    for (u64 i = 0; i < n; i++) {
-        to[0] = "+-"[t->minus[group] >> i & 1];
-        for (u64 j = 0; j < n; j += LETTERS) {
-            u64 word = letters(spread(x[i] >> j), spread(z[i] >> j));
-            memcpy(to + 1 + j, &word, sizeof word);
-        }
-        to += 1 + n;
-    }
-    return to;
-}
-
-/* The last letters of a row may spill over, at most seven bytes, into what is written next. */
-void best_write(const Tableau *t, u64 n, const u8 *outcomes, u64 measured, u8 *to)
-{
-    u64 rows = record_length(n, 0);
-    u8 trailer[TRAILER] = { 0 };
-    memcpy(to, outcomes, measured);
-    to = write_rows(t, 0, n, to + measured);
-    to = write_rows(t, 1, n, to);
-    for (int k = 0; k < 4; k++) {
-        trailer[k] = (u8)(rows >> 8 * k);
-        trailer[4 + k] = (u8)((rows + measured) >> 8 * k);
-    }
-    trailer[8] = (u8)n;
-    trailer[10] = 0x53;
-    trailer[11] = 0x52;
-    memcpy(to, trailer, TRAILER);
-}
+enum { LETTERS = 16, GROUP = 4, GROUPS = MOST_QUBITS / GROUP, SUMS = 1 << GROUP };
 
 typedef struct {
     u64 n, outcomes, length;
@@ -90,11 +26,11 @@ static int find_record(const u8 *bytes, u64 len, Shape *s)
     s->n = t[8] | (u64)t[9] << 8;
     s->outcomes = s->length - rows;
     s->start = s->length <= len ? bytes + len - s->length : bytes;
-    return t[10] == 0x53 && t[11] == 0x52 && s->n - 1 < MOST_QUBITS && rows == record_length(s->n, 0) &&
+    return t[10] == 0x53 && t[11] == 0x52 && s->n - 1 < MOST_QUBITS && rows == RECORD(s->n, 0) &&
            s->length >= rows && s->outcomes <= MOST_OPS && s->length <= len;
 }
 
-static u64 outcomes_bad(const u8 *from, u64 count)
+static int outcomes_bad(const u8 *from, u64 count)
 {
     u8 bad = 0;
     for (u64 i = 0; i < count; i++)
@@ -102,35 +38,66 @@ static u64 outcomes_bad(const u8 *from, u64 count)
     return bad;
 }
 
-/* Takes the eight letters of a word apart; what it answers is zero when all are letters. */
-static inline u64 take_letters(u64 word, u64 *x, u64 *z)
+typedef u8 Bytes __attribute__((vector_size(16)));
+typedef signed char Signed __attribute__((vector_size(16)));
+typedef _Bool Bits __attribute__((ext_vector_type(16)));
+
+/* The top bit of each byte. */
+ALWAYS unsigned short tops(Pair c)
 {
-    u64 any = word >> 4 & EACH, third = word >> 1 & EACH;
-    u64 xs = any & ~third, zs = any & (third | word);
-    *x = gather(xs);
-    *z = gather(zs);
-    return word ^ letters(xs, zs);
+    union {
+        Bits each;
+        unsigned short all;
+    } bits = { __builtin_convertvector((Signed)c < 0, Bits) };
+    return bits.all;
 }
 
-/* Row i of n letters; zero when its bytes are a sign and letters. */
-static u64 take_row(const u8 *from, u64 n, u64 *x, u64 *z)
+/* A row's x bits and z bits. Rows stand in order with `pairs` times 64 places for either kind. */
+typedef struct {
+    u64 w[2][MOST_PAIRS];
+} Row;
+
+/* What the rows are read from: of the last bytes of a row only those in `within` are its own. */
+typedef struct {
+    const u8 *at, *end;
+    Bytes within, bad;
+} Reader;
+
+/* The last bytes of a row, and what follows them: behind the last row it may be fewer than sixteen. */
+ALWAYS Bytes take_last(const Reader *r, const u8 *from)
 {
-    u64 bad = (from[0] != '+') & (from[0] != '-'), word, j = 0, xs, zs;
-    *x = *z = 0;
+    Bytes c = { 0 };
+    if (r->end - from >= LETTERS)
+        memcpy(&c, from, sizeof c);
+    else
+        memcpy(&c, from, (u64)(r->end - from));
+    return (c & r->within) | ('I' & ~r->within);
+}
+
+/* Takes up to sixteen letters apart; `bad` is set where a byte is no letter. */
+ALWAYS void take_letters(Bytes c, Bytes *bad, u64 j, Row *row)
+{
+    Pair any = (Pair)c << 3, second = (Pair)c << 6, first = (Pair)c << 7;
+    unsigned short x = tops(any & ~second), z = tops(any & (second | first));
+    *bad |= (Bytes)(c - 'X' > 2) & (Bytes)(c != 'I');
+    memcpy((u8 *)row->w[0] + j / 8, &x, sizeof x);
+    memcpy((u8 *)row->w[1] + j / 8, &z, sizeof z);
+}
+
+ALWAYS void take_row(Reader *r, u64 pairs, u64 n, Row *row)
+{
+    u64 j = 0;
+    for (u64 k = 0; k < pairs; k++)
+        row->w[0][k] = row->w[1][k] = 0;
+    r->bad |= (Bytes){ (r->at[0] != '+') & (r->at[0] != '-') };
     for (; j + LETTERS <= n; j += LETTERS) {
-        memcpy(&word, from + 1 + j, sizeof word);
-        bad |= take_letters(word, &xs, &zs);
-        *x |= xs << j;
-        *z |= zs << j;
+        Bytes c;
+        memcpy(&c, r->at + 1 + j, sizeof c);
+        take_letters(c, &r->bad, j, row);
     }
-    if (j < n) {
-        word = 0x49 * EACH;
-        memcpy(&word, from + 1 + j, n - j);
-        bad |= take_letters(word, &xs, &zs);
-        *x |= xs << j;
-        *z |= zs << j;
-    }
-    return bad;
+    if (j < n)
+        take_letters(take_last(r, r->at + 1 + j), &r->bad, j, row);
+    r->at += ROW(n);
 }
 
 /* The first byte of a refused record that is not listed. */
@@ -146,61 +113,106 @@ static u64 first_bad(const Shape *s)
     return i;
 }
 
-typedef Pair Sums[GROUPS][16];
-
-/* rows[0] are those of the destabilizers, rows[1] those of the stabilizers; both are used up. */
-static void make_sums(Sums sums, u64 rows[2][MOST_QUBITS])
+/* Exchanges rows and columns of two squares of 64 times 64 bits. */
+static void transpose(Pair m[WORD])
 {
-    transpose(rows[0]);
-    transpose(rows[1]);
-    for (int k = 0; k < GROUPS; k++) {
-        sums[k][0] = (Pair){ 0, 0 };
-        for (int one = 0; one < 4; one++) {
-            Pair column = { rows[0][4 * k + one], rows[1][4 * k + one] };
-            for (int low = 0; low < 1 << one; low++)
-                sums[k][1 << one | low] = sums[k][low] ^ column;
+    u64 mask = 0x00000000FFFFFFFFul;
+    for (u64 step = WORD / 2; step; step >>= 1, mask ^= mask << step)
+        for (u64 k = 0; k < WORD; k = ((k | step) + 1) & ~step) {
+            Pair swap = ((m[k] >> step) ^ m[k | step]) & mask;
+            m[k] ^= swap << step;
+            m[k | step] ^= swap;
         }
+}
+
+/* The sums of the columns of each group, all rows of a sum side by side. */
+typedef Pair Sums[GROUPS * SUMS * MOST_PAIRS];
+
+/* Of the columns 64h on, x or z as `of` says, for the rows of pair e, which are those from 128e on. */
+NEVER void make_sums(Sums sums, u64 pairs, u64 n, u64 e, u64 h, const Row *rows, u64 of)
+{
+    Pair m[WORD];
+    rows += 2 * WORD * e;
+    for (u64 i = 0; i < WORD; i++)
+        m[i] = (Pair){ rows[i].w[of][h], rows[WORD + i].w[of][h] };
+    transpose(m);
+    for (u64 j = 0; j < WORD && WORD * h + j < (n + 7) / 8 * 8; j += GROUP) {
+        Pair *to = sums + (WORD * h + j) / GROUP * SUMS * pairs + e;
+        to[0] = (Pair){ 0, 0 };
+        for (u64 one = 0; one < GROUP; one++)
+            for (u64 low = 0; low < 1u << one; low++)
+                to[(1u << one | low) * pairs] = to[low * pairs] ^ m[j + one];
     }
+}
+
+/* Whether a row is paired properly with all rows from pair `from` on. */
+ALWAYS int paired(const Pair *by_x, const Pair *by_z, u64 pairs, u64 n, const Row *row, u64 partner, u64 from)
+{
+    Pair found[MOST_PAIRS] = { { 0, 0 }, { 0, 0 } };
+    const u8 *x = (const u8 *)row->w[0], *z = (const u8 *)row->w[1];
+    for (u64 j = 0; j < n; j += 2 * GROUP, x++, z++)
+        for (u64 k = 0; k < 2 * GROUP; k += GROUP, by_x += SUMS * pairs, by_z += SUMS * pairs)
+            for (u64 e = from; e < pairs; e++)
+                found[e] ^= by_x[(*x >> k) % SUMS * pairs + e] ^ by_z[(*z >> k) % SUMS * pairs + e];
+    if (partner / (2 * WORD) >= from)
+        found[partner / (2 * WORD)][partner / WORD % 2] ^= 1ul << partner % WORD;
+    found[0] |= found[1];
+    return !(found[0][0] | found[0][1]);
 }
 
 /* The lowest row that is not paired properly with some other, or ~0. */
-static u64 wrong_row(u64 n, u64 x[2][MOST_QUBITS], u64 z[2][MOST_QUBITS])
+ALWAYS u64 wrong_row(u64 pairs, u64 n, const Row *rows)
 {
     Sums by_x, by_z;
-    u64 across[2][MOST_QUBITS], up[2][MOST_QUBITS];
-    memcpy(across, x, sizeof across);
-    memcpy(up, z, sizeof up);
-    make_sums(by_x, up);
-    make_sums(by_z, across);
-    for (u64 side = 0; side < 2; side++)
-        for (u64 i = 0; i < n; i++) {
-            Pair found = { 0, 0 };
-            for (u64 k = 0; k < GROUPS; k++)
-                found ^= by_x[k][x[side][i] >> 4 * k & 15] ^ by_z[k][z[side][i] >> 4 * k & 15];
-            if (found[side] | (found[1 - side] ^ 1ul << i))
-                return side * n + i;
+    for (u64 e = 0; e < pairs; e++)
+        for (u64 h = 0; h < pairs; h++) {
+            make_sums(by_x, pairs, n, e, h, rows, 1);
+            make_sums(by_z, pairs, n, e, h, rows, 0);
         }
+    for (u64 i = 0; i < n; i++)
+        if (!paired(by_x, by_z, pairs, n, &rows[i], WORD * pairs + i, 0))
+            return i;
+    for (u64 i = 0; i < n; i++)
+        if (!paired(by_x, by_z, pairs, n, &rows[WORD * pairs + i], i, pairs - 1))
+            return n + i;
     return ~0ul;
 }
 
+NEVER u64 wrong_narrow(u64 n, const Row *rows) { return wrong_row(1, n, rows); }
+NEVER u64 wrong_wide(u64 n, const Row *rows) { return wrong_row(2, n, rows); }
+
+/* All rows; answers whether a byte of theirs is wrong. */
+ALWAYS int take_rows(u64 pairs, const Shape *s, Row *rows)
+{
+    Reader r = { s->start + s->outcomes, s->start + s->length, { 0 }, { 0 } };
+    for (u64 j = 0; j < s->n % LETTERS; j++)
+        r.within[j] = 255;
+    for (u64 side = 0; side < 2; side++, rows += pairs * WORD) {
+        for (u64 i = 0; i < s->n; i++)
+            take_row(&r, pairs, s->n, &rows[i]);
+        for (u64 i = s->n; i < pairs * WORD; i++)
+            for (u64 k = 0; k < pairs; k++)
+                rows[i].w[0][k] = rows[i].w[1][k] = 0;
+    }
+    Pair bad = (Pair)r.bad;
+    return (bad[0] | bad[1]) != 0;
+}
+
+NEVER int take_narrow(const Shape *s, Row *rows) { return take_rows(1, s, rows); }
+NEVER int take_wide(const Shape *s, Row *rows) { return take_rows(2, s, rows); }
+
 static u64 read_record(const u8 *bytes, u64 len, Shape *s, u64 *place)
 {
-    u64 x[2][MOST_QUBITS], z[2][MOST_QUBITS], bad;
+    Row rows[2 * MOST_QUBITS];
     *place = 0;
     if (!find_record(bytes, len, s))
         return 9;
-    memset(x, 0, sizeof x);
-    memset(z, 0, sizeof z);
-    bad = outcomes_bad(s->start, s->outcomes);
-    const u8 *at = s->start + s->outcomes;
-    for (u64 side = 0; side < 2; side++)
-        for (u64 i = 0; i < s->n; i++, at += s->n + 1)
-            bad |= take_row(at, s->n, &x[side][i], &z[side][i]);
-    if (bad) {
+    u64 narrow = pairs_of(s->n) == 1;
+    if ((narrow ? take_narrow : take_wide)(s, rows) | outcomes_bad(s->start, s->outcomes)) {
         *place = first_bad(s);
         return 10;
     }
-    u64 row = wrong_row(s->n, x, z);
+    u64 row = (narrow ? wrong_narrow : wrong_wide)(s->n, rows);
     *place = row == ~0ul ? 0 : row;
     return row == ~0ul ? 0 : 11;
 }
@@ -231,7 +243,7 @@ u64 best_same(const u8 *first, u64 first_len, const u8 *second, u64 second_len, 
     answer[0] = number ? 2 : 0;
     if (number || s.n != t.n)
         return number;
-    u64 rows = s.n * (s.n + 1);
+    u64 rows = s.n * ROW(s.n);
     answer[2] = !memcmp(first + first_len - TRAILER - rows, second + second_len - TRAILER - rows, rows);
     return 0;
 }

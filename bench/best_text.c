@@ -45,9 +45,9 @@ int best_tail(Scan *s)
     return 1;
 }
 
-u64 best_refusal(const Scan *s)
+u64 best_refusal(const Scan *s, const u8 *at)
 {
-    const u8 *at = s->at, *end = s->end;
+    const u8 *end = s->end;
     u64 pair = *at == 'C', b = 0;
     u8 kind = pair && at + 1 < end ? *++at : *at;
     if (pair ? kind != 'X' && kind != 'Z'
@@ -74,23 +74,31 @@ static int single(u8 c)
                                           1u << 'X' % 32 | 1u << 'Y' % 32 | 1u << 'Z' % 32) >> c % 32) & 1);
 }
 
+/* The operation lines behind a good line 1. */
+ALWAYS void judge(Verdict *v, u64 digits, Scan *s)
+{
+    const u8 *at = s->at;
+    u64 a, b, n = s->n, ops = 0, measured = 0, number = 0;
+    for (; !number && more(s, &at); ops++) {
+        u8 c = *at;
+        if (ops == MOST_OPS)
+            number = 6;
+        else if (!(c == 'C' ? take_two(&at, digits, n, &a, &b)
+                            : single(c) && take_one(&at, digits, n, (c == 'M') & is_reset(at), &a)))
+            number = best_refusal(s, at);
+        measured += c == 'M';
+    }
+    *v = (Verdict){ number, number ? ops + 1 : 0, n, ops, measured };
+}
+
 Verdict best_verdict(const u8 *text, u64 length)
 {
     Scan s;
-    u64 a, b, number = best_head(&s, text, length);
-    Verdict v = { number, 1, s.n, 0, 0 };
-    while (!v.number && more(&s)) {
-        u8 c = *s.at;
-        v.place = v.ops + 2;
-        if (v.ops == MOST_OPS)
-            v.number = 6;
-        else if (!(c == 'C' ? take_two(&s, &a, &b) : single(c) && take_one(&s, (c == 'M') & is_reset(&s), &a)))
-            v.number = best_refusal(&s);
-        v.ops++;
-        v.measured += c == 'M';
-    }
-    if (!v.number)
-        v.place = 0;
+    Verdict v = { best_head(&s, text, length), 1, 0, 0, 0 };
+    if (!v.number && digits_of(s.n) == 2)
+        judge(&v, 2, &s);
+    else if (!v.number)
+        judge(&v, 3, &s);
     return v;
 }
 

@@ -6,7 +6,13 @@
 
 #include "../tests/harness/senghovai_decl.h"
 
-enum { MOST_QUBITS = 64, MOST_OPS = 4096, TRAILER = 12, LONGEST_RECORD = 12428 };
+/* A row is a sign and n letters; a record is its outcomes, 2n rows and the trailer. */
+#define ROW(n) ((n) + 1)
+#define RECORD(n, outcomes) ((outcomes) + 2 * (n) * ROW(n) + TRAILER)
+
+enum { MOST_QUBITS = 128, MOST_OPS = 4096, TRAILER = 12 };
+enum { LONGEST_RECORD = RECORD(MOST_QUBITS, MOST_OPS) };
+_Static_assert(ROW(MOST_QUBITS) == 129 && LONGEST_RECORD == 37132, "document 01 with the limit of 128 qubits");
 
 extern void *memcpy(void *to, const void *from, u64 length);
 extern void *memset(void *to, int byte, u64 length);

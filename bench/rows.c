@@ -219,7 +219,7 @@ static u8 *put_number(u8 *to, u64 number, int bytes)
 
 static void write_record(const State *q, const u8 *outcomes, u64 measured, u8 *to)
 {
-    u64 rows = TRAILER + 2 * (u64)q->n * ((u64)q->n + 1);
+    u64 rows = RECORD((u64)q->n, 0);
     memcpy(to, outcomes, measured);
     to += measured;
     for (int i = 0; i < 2 * q->n; i++) {
@@ -243,7 +243,7 @@ u64 rows_run(const u8 *circuit, u64 circuit_len, const u8 *coins, u64 coins_len,
     State q;
     u8 outcomes[MOST_OPS];
     u64 place, taken = 0, number = rows_parse(&c, circuit, circuit_len, &place);
-    u64 length = (u64)c.measured + 2 * (u64)c.n * ((u64)c.n + 1) + TRAILER;
+    u64 length = RECORD((u64)c.n, (u64)c.measured);
     if (!number && record_len < length)
         number = 8;
     if (!number && (place = (u64)run_all(&q, &c, coins, coins_len, outcomes, &taken)))

@@ -22,8 +22,10 @@ void draw_bytes(u8 *to, u64 count)
 
 static u8 *put_number(u8 *to, u64 number)
 {
+    if (number > 99)
+        *to++ = (u8)('0' + number / 100);
     if (number > 9)
-        *to++ = (u8)('0' + number / 10);
+        *to++ = (u8)('0' + number / 10 % 10);
     *to++ = (u8)('0' + number % 10);
     return to;
 }
@@ -74,73 +76,93 @@ u64 make_hadamards(u8 *to, u64 n, u64 ops)
     return (u64)(at - to);
 }
 
-enum { DISTANCE = 5, DATA = DISTANCE * DISTANCE, CHECKS = DATA - 1, ROUNDS = 32 };
+enum { MOST_DISTANCE = 7, MOST_CHECKS = MOST_DISTANCE * MOST_DISTANCE - 1 };
 
 typedef struct {
     int row, column, is_x;
 } Check;
 
+typedef struct {
+    int distance, data, count;
+    Check checks[MOST_CHECKS];
+} Patch;
+
 /* Inside, every corner between four data qubits; on the rim, every second one, the X kind above
    and below and the Z kind at the sides. */
-static void place_checks(Check checks[CHECKS])
+static void place_checks(Patch *p, int distance)
 {
-    int count = 0;
-    for (int r = 0; r <= DISTANCE; r++)
-        for (int c = 0; c <= DISTANCE; c++) {
-            int rim_row = r == 0 || r == DISTANCE, rim_column = c == 0 || c == DISTANCE;
+    p->distance = distance;
+    p->data = distance * distance;
+    p->count = 0;
+    for (int r = 0; r <= distance; r++)
+        for (int c = 0; c <= distance; c++) {
+            int rim_row = r == 0 || r == distance, rim_column = c == 0 || c == distance;
             int is_x = (r + c) % 2 == 0;
             if ((rim_row && rim_column) || (rim_row && !is_x) || (rim_column && is_x))
                 continue;
-            checks[count++] = (Check){ r, c, is_x };
+            p->checks[p->count++] = (Check){ r, c, is_x };
         }
 }
 
 /* The neighbour of a check at one step, -1 when it lies outside. The two kinds go round in
    different orders, so that two checks which share data qubits do not disturb each other. */
-static int neighbour(Check k, int step)
+static int neighbour(const Patch *p, Check k, int step)
 {
     int down = k.is_x ? step / 2 : step % 2, right = k.is_x ? step % 2 : step / 2;
     int r = k.row - 1 + down, c = k.column - 1 + right;
-    return r < 0 || c < 0 || r >= DISTANCE || c >= DISTANCE ? -1 : r * DISTANCE + c;
+    return r < 0 || c < 0 || r >= p->distance || c >= p->distance ? -1 : r * p->distance + c;
 }
 
-static u8 *put_each(u8 *at, const Check checks[CHECKS], const char *kind, int only_x)
+static u8 *put_each(u8 *at, const Patch *p, const char *kind, int only_x)
 {
-    for (u64 k = 0; k < CHECKS; k++)
-        if (checks[k].is_x || !only_x)
-            at = put_line(at, kind, DATA + k, 0);
+    for (int k = 0; k < p->count; k++)
+        if (p->checks[k].is_x || !only_x)
+            at = put_line(at, kind, (u64)(p->data + k), 0);
     return at;
 }
 
-u64 make_surface(u8 *to, const char *measure)
+static u8 *put_round(u8 *at, const Patch *p, const char *measure)
 {
-    Check checks[CHECKS];
-    place_checks(checks);
-    u8 *at = put_line(to, "Q", DATA + CHECKS, 0);
-    for (int round = 0; round < ROUNDS; round++) {
-        at = put_each(at, checks, "H", 1);
-        for (int step = 0; step < 4; step++)
-            for (u64 k = 0; k < CHECKS; k++) {
-                int d = neighbour(checks[k], step);
-                if (d >= 0)
-                    at = checks[k].is_x ? put_line(at, "CX", DATA + k, (u64)d) : put_line(at, "CX", (u64)d, DATA + k);
-            }
-        at = put_each(at, checks, "H", 1);
-        at = put_each(at, checks, measure, 0);
-    }
+    at = put_each(at, p, "H", 1);
+    for (int step = 0; step < 4; step++)
+        for (int k = 0; k < p->count; k++) {
+            int d = neighbour(p, p->checks[k], step), ancilla = p->data + k, is_x = p->checks[k].is_x;
+            if (d >= 0)
+                at = put_line(at, "CX", (u64)(is_x ? ancilla : d), (u64)(is_x ? d : ancilla));
+        }
+    at = put_each(at, p, "H", 1);
+    return put_each(at, p, measure, 0);
+}
+
+static u64 lines(const u8 *from, const u8 *to)
+{
+    u64 count = 0;
+    while (from < to)
+        count += *from++ == '\n';
+    return count;
+}
+
+u64 make_surface(u8 *to, int distance, const char *measure)
+{
+    Patch p;
+    place_checks(&p, distance);
+    u8 *first = put_line(to, "Q", (u64)(p.data + p.count), 0), *at = put_round(first, &p, measure);
+    for (u64 rounds = MOST_OPS / lines(first, at) - 1; rounds; rounds--)
+        at = put_round(at, &p, measure);
     return (u64)(at - to);
 }
 
-void make_longest(u8 record[LONGEST_RECORD], u64 circuit_seed, u64 outcome_seed)
+u64 make_longest(u8 *record, u64 n, u64 circuit_seed, u64 outcome_seed)
 {
     static u8 text[MOST_TEXT];
-    u64 answer[6];
+    u64 answer[6], longest = RECORD(n, MOST_OPS);
     seed(circuit_seed);
-    u64 length = make_mixed(text, MOST_QUBITS, MOST_OPS, 0);
-    best_run(text, length, text, 0, record + MOST_OPS, LONGEST_RECORD - MOST_OPS, answer);
+    u64 length = make_mixed(text, n, MOST_OPS, 0);
+    best_run(text, length, text, 0, record + MOST_OPS, longest - MOST_OPS, answer);
     seed(outcome_seed);
     for (u64 i = 0; i < MOST_OPS; i++)
         record[i] = (u8)('0' + draw(4));
     for (int k = 0; k < 4; k++)
-        record[LONGEST_RECORD - 8 + k] = (u8)((u64)LONGEST_RECORD >> 8 * k);
+        record[longest - 8 + (u64)k] = (u8)(longest >> 8 * k);
+    return longest;
 }
