@@ -12,7 +12,7 @@ use Rattle.pauli.specs.Sums.{sum}
 use Rattle.pauli.specs.Rows.{odd-number}
 use Rattle.pauli.proofs.Cases.{tested, bit}
 use Rattle.pauli.proofs.Sums.{Adds, sum-cong, sum-plus, sum-zero, sum-at, sum-map}
-use Rattle.pauli.proofs.LetterLaws.{xor-adds}
+use Rattle.pauli.proofs.LetterLaws.{both, xor-adds}
 use Rattle.answers.specs.First.{lowest}
 use Rattle.answers.proofs.First.{Answer, lowest-is}
 
@@ -132,10 +132,6 @@ pub dependent : (k m : ℕ) (alive : ℕ → Bool) (v : ℕ → ℕ → Bool) �
 dependent zero m alive v h = first m alive v h (lowest alive m) (lowest-is alive m)
 dependent (suc k) m alive v h = go (dependent k m) (lowest (λ i. alive i && v i k) m) (lowest-is (λ i. alive i && v i k) m)
   where
-    both : (a b : Bool) → (a && b) ≡ true → (a ≡ true) × (b ≡ true)
-    both true b e = (refl, e)
-    both false b e = clash false e refl
-
     go : ((alive : ℕ → Bool) (v : ℕ → ℕ → Bool) → k < count alive m → Dependence k m alive v) → (o : Option ℕ) → Answer (λ i. alive i && v i k) m o → Dependence (suc k) m alive v
     go ih none l = skip k m alive v l (ih alive v (omega arith))
     go ih (some p) l =

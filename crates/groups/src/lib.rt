@@ -1,6 +1,6 @@
 // Four words side by side, which have a bit for each row: loaded and stored at once, and what is done to all rows of them. The words are written out one by one, so that the
 // compiler makes vectors of them.
-ghost use mathlib.Core.Bool.{not, _&&_};
+ghost use mathlib.Core.Bool.{true, not, _&&_};
 ghost use mathlib.Core.Path.{_≡_};
 ghost use Prim.Native.Nat.{_+_, _%_, _≤_};
 ghost use lib.Dec.{eqb};
@@ -100,4 +100,11 @@ pub fn same(g: Group, h: Group) -> Group
         c: u64::MAX ^ (g.c ^ h.c),
         d: u64::MAX ^ (g.d ^ h.d),
     }
+}
+
+// The same rows are set in both.
+pub fn equal(g: Group, h: Group) -> bool
+    ensures { λ r. ⌜ (r ≡ true → All (λ s. row-bit g s ≡ row-bit h s)) × (All (λ s. row-bit g s ≡ row-bit h s) → r ≡ true) ⌝ }
+{
+    (g.a == h.a) & (g.b == h.b) & (g.c == h.c) & (g.d == h.d)
 }

@@ -7,6 +7,7 @@ use lib.IntN.{ℤ, pos, negsuc}
 use borrow.Author.Tests.{eqb-true}
 use Rattle.pauli.specs.Letters.{Letter, _·_, power, sign}
 use Rattle.pauli.proofs.Cases.{tested, bit, ltr}
+use Rattle.pauli.proofs.LetterLaws.{both}
 use Rattle.clifford.specs.declared.One.{One}
 use Rattle.clifford.specs.declared.One.the-variants.{H, S, PauliX, PauliY, PauliZ}
 use Rattle.clifford.specs.declared.Two.{Two}
@@ -31,10 +32,6 @@ same-list f (a ∷ r) (b ∷ s) = f a b && same-list f r s
 
 abbrev same : Matrix → Matrix → Bool
 same = same-list (same-list same-entry)
-
-both : (a b : Bool) → (a && b) ≡ true → (a ≡ true) × (b ≡ true)
-both true b e = (refl, e)
-both false b e = absurd (true≢false (sym e))
 
 number-sound : (a b : ℤ) → same-number a b ≡ true → a ≡ b
 number-sound (pos m) (pos n) e = ap pos (eqb-true m n e)

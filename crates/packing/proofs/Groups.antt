@@ -8,14 +8,14 @@ use native.Mathlib.Nat.{add-zero}
 use native.Mathlib.Decide.{decLt}
 use native.Mathlib.Omega.{arith}
 use lib.Dec.{eqb}
-use lib.ListN.{getD, set, length-set}
+use lib.ListN.{length, getD, set, length-set}
 use borrow.Author.Tests.{eqb-true, eqb-false}
 use lib.Seq.{getD-set-same, getD-set-other}
 use Rattle.words.specs.Bit.{bit}
 use Rattle.pauli.specs.Letters.{letter}
 use Rattle.limits.specs.Limits.{most-qubits}
 use Rattle.packing.specs.View.{row-count, sign-words, word-count, Words, bit-in, group, bit-at, letter-at}
-use Rattle.packing.specs.parts.Changes.{four, Changed}
+use Rattle.packing.specs.parts.Changes.{four, Replaced, Changed}
 
 -- the number of a row's word
 pub word-of : (s : ℕ) → s < row-count → s / 64 < 4
@@ -50,7 +50,7 @@ bit-loads w o s l = ap (bit (s % 64)) (loaded w o (s / 64) (word-of s l))
 abbrev pub put : List ℕ → ℕ → ℕ → ℕ → ℕ → ℕ → List ℕ
 put w o a b c d = set (set (set (set w o a) (o + 1) b) (o + 2) c) (o + 3) d
 
-module _ (w : List ℕ) (lw : Words w) (o : ℕ) (lo : o + 4 ≤ word-count) (f : ℕ → ℕ) where
+module _ (w : List ℕ) {count : ℕ} (lw : length w ≡ count) (o : ℕ) (lo : o + 4 ≤ count) (f : ℕ → ℕ) where
   abbrev w1 : List ℕ
   w1 = set w o (f 0)
 
@@ -80,7 +80,7 @@ module _ (w : List ℕ) (lw : Words w) (o : ℕ) (lo : o + 4 ≤ word-count) (f 
   stored-at (suc (suc (suc (suc g)))) h = absurd (omega arith)
 
   -- four words from o on are replaced, all else stays
-  pub changed : (b : ℕ → Bool) → ((s : ℕ) → s < row-count → bit-in f s ≡ b s) → Changed o b w stored
+  pub changed : (b : ℕ → Bool) → ((s : ℕ) → s < row-count → bit-in f s ≡ b s) → Replaced count o b w stored
   changed b e = record {
     words = simp length-set lw;
     bits = λ s l. ap (bit (s % 64)) (stored-at (s / 64) (word-of s l)) ∙ e s l;
@@ -89,8 +89,8 @@ module _ (w : List ℕ) (lw : Words w) (o : ℕ) (lo : o + 4 ≤ word-count) (f 
   }
 
 -- a group of words that has none of those that were replaced
-pub elsewhere : {o : ℕ} {f : ℕ → Bool} {w w′ : List ℕ} → Changed o f w w′ → (p s : ℕ) → s < row-count → (p < o → p + 4 ≤ o) → (o ≤ p → o + 4 ≤ p) → bit-at w′ p s ≡ bit-at w p s
-elsewhere {o} {f} {w} {w′} c p s l below above = ap (bit (s % 64)) (go (decLt p o))
+pub elsewhere : {count o : ℕ} {f : ℕ → Bool} {w w′ : List ℕ} → Replaced count o f w w′ → (p s : ℕ) → s < row-count → (p < o → p + 4 ≤ o) → (o ≤ p → o + 4 ≤ p) → bit-at w′ p s ≡ bit-at w p s
+elsewhere {count} {o} {f} {w} {w′} c p s l below above = ap (bit (s % 64)) (go (decLt p o))
   where
     go : Dec (p < o) → group w′ p (s / 64) ≡ group w p (s / 64)
     go (yes h) = c .before (p + s / 64) (omega (arith, below h, word-of s l))

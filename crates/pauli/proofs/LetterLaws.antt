@@ -1,11 +1,16 @@
 -- The laws of letters and of powers of i, each tested at all values. Assumes nothing.
-use mathlib.Core.Path.{_≡_, sym, _∙_, ap}
-use mathlib.Core.Bool.{Bool, true, false, _&&_}
+use mathlib.Core.Path.{_≡_, refl, sym, _∙_, ap}
+use mathlib.Core.Bool.{Bool, true, false, _&&_, true≢false}
 use mathlib.Core.List.{[], _∷_}
 use Rattle.pauli.specs.Letters.{Letter, I, Power, i0, i1, _⊕_, x, z, letter, _⊞_, sign, odd, _·_, power, differ}
 use Rattle.pauli.specs.Rows.{minus-sign}
 use Rattle.pauli.proofs.Cases.{tested, bit, ltr, pow}
 use Rattle.pauli.proofs.Sums.{Adds}
+
+-- what is true of both
+pub both : (a b : Bool) → (a && b) ≡ true → (a ≡ true) × (b ≡ true)
+both true b e = (refl, e)
+both false b e = absurd (true≢false (sym e))
 
 pub xor-adds : Adds false _⊕_
 xor-adds = record { left = tested (bit ∷ []) bit _ _ tt; right = tested (bit ∷ []) bit _ _ tt; medial = tested (bit ∷ bit ∷ bit ∷ bit ∷ []) bit _ _ tt }

@@ -14,15 +14,11 @@ use Rattle.pauli.specs.Letters.{Letter, I, X, Y, Z, Power, i0, i1, i2, i3, _⊞
 use Rattle.pauli.specs.Rows.{total, mul, minus-sign}
 use Rattle.pauli.specs.Texts.{letter-byte, letter-of, sign-byte, spelled, fits-at}
 use Rattle.pauli.proofs.Cases.{tested, agree, bit, ltr}
-use Rattle.pauli.proofs.LetterLaws.{power-adds, add-assoc}
+use Rattle.pauli.proofs.LetterLaws.{both, power-adds, add-assoc}
 use Rattle.pauli.proofs.Listed.{length-listed, getD-listed}
 use Rattle.product.specs.parts.Table.{code-of, power-number, letter-text}
 
 -- ---- the table
-
-both : (a b : Bool) → (a && b) ≡ true → (a ≡ true) × (b ≡ true)
-both true b e = (refl, e)
-both false b e = absurd (true≢false (sym e))
 
 module _ (t : List ℕ) where
   -- the test of one entry, that its power is a digit; and that it has the product's letter and power

@@ -1,6 +1,6 @@
 -- The first place that passes a test, found part by part, and the bytes of a record by their places. Assumes nothing.
 use mathlib.Core.Path.{_≡_, refl, sym, _∙_, ap}
-use mathlib.Core.Bool.{Bool, true, false, not, _&&_, true≢false}
+use mathlib.Core.Bool.{Bool, true, false, not, _&&_}
 use mathlib.Core.List.{List}
 use mathlib.Core.Option.{none, some}
 use Prim.Native.Nat.{ℕ, zero, suc, _+_, _-_, _*_, _%_, _≤_, _<_}
@@ -15,6 +15,7 @@ use borrow.Author.Tests.{lt-ltb, le-ltb}
 use Rattle.answers.specs.First.{lowest}
 use Rattle.answers.proofs.First.{lowest-some, lowest-none}
 use Rattle.pauli.specs.Texts.{is-sign, is-letter, fits-at}
+use Rattle.pauli.proofs.LetterLaws.{both}
 use Rattle.records.specs.Reading.{is-mark, byte-fits}
 use Rattle.read_rows.specs.parts.Loading.{First, None-where}
 
@@ -52,10 +53,6 @@ module _ (f g h : ℕ → Bool) (m l : ℕ) (front : (k : ℕ) → k < m → f k
   }
 
 -- a look that was true at each place
-pub both : (a b : Bool) → (a && b) ≡ true → (a ≡ true) × (b ≡ true)
-both true b e = (refl, e)
-both false b e = absurd (true≢false (sym e))
-
 pub look-more : (f : ℕ → Bool) (k : ℕ) (ok b : Bool) → None-where ok f k → not b ≡ f k → None-where (ok && b) f (k + 1)
 look-more f k ok b a e t = below-more _ k (a (both ok b t .0)) (sym e ∙ ap not (both ok b t .1))
 

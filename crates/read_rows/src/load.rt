@@ -21,13 +21,13 @@ pub struct Planes {
     pub z: [u8; PLANE],
 }
 
-fn has_x(b: u8) -> bool
+pub fn has_x(b: u8) -> bool
     ensures { λ r. ⌜ r ≡ x (letter-of b) ⌝ }
 {
     (b == b'X') | (b == b'Y')
 }
 
-fn has_z(b: u8) -> bool
+pub fn has_z(b: u8) -> bool
     ensures { λ r. ⌜ r ≡ z (letter-of b) ⌝ }
 {
     (b == b'Y') | (b == b'Z')

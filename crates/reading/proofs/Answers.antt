@@ -21,7 +21,7 @@ use Rattle.records.specs.Reading.{Read, read-of, reading, ends-in-record, first
 use Rattle.reading.specs.declared.Last.{Last}
 use Rattle.reading.specs.declared.Last.the-variants.{Record, Refused}
 use Rattle.reading.specs.Answer.{told-read, qubits-held, Within, Besides, Reads, handed, in-numbers, Hands}
-use Rattle.reading.specs.parts.Pairs.{Refuses}
+use Rattle.reading.specs.parts.Refusing.{Refuses}
 use Rattle.read_rows.specs.parts.Loading.{First, in-record, Loaded}
 use Rattle.records.proofs.Ending.{ending}
 use Rattle.reading.proofs.WrongPairs.{lower-wrong}

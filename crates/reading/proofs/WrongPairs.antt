@@ -1,4 +1,4 @@
--- The wrong pairs of a tableau, by which of its rows they are, and what is known of an accepted record. Assumes nothing.
+-- The lower row of a wrong pair, and what is known of the rows of an accepted record. Assumes nothing.
 use mathlib.Core.Path.{_≡_, refl, ap, subst}
 use mathlib.Core.Bool.{Bool, true, false, true≢false}
 use mathlib.Core.List.{List}
@@ -19,37 +19,9 @@ use Rattle.records.proofs.Pairs.{none-paired}
 use Rattle.records.proofs.Taken.{taken}
 use Rattle.read_rows.specs.parts.Loading.{First}
 
-pub cancel : (a b : Bool) → a ⊕ b ≡ false → a ≡ b
-cancel true true e = refl
-cancel true false e = absurd (true≢false e)
-cancel false true e = absurd (true≢false e)
-cancel false false e = refl
-
-pub alone : (a b : Bool) → b ≡ false → a ≡ false → a ⊕ b ≡ false
-alone a b u v = rw (u, v)
-
-module _ (n : ℕ) (t : Rows) where
-  -- no row is below itself
-  pub below : (i j : ℕ) → j ≤ i → wrong-pair n t i j ≡ false
-  below i j h = rw (le-ltb i j h)
-
-  pub pair : (i j : ℕ) → i < j → wrong-pair n t i j ≡ anticommute n (numbered n t i .letters) (numbered n t j .letters) ⊕ eqb j (n + i)
-  pair i j h = rw (lt-ltb i j h)
-
-  -- row i is the lower row of a wrong pair
-  abbrev pub lower-wrong : ℕ → Bool
-  lower-wrong i = is-some (lowest (wrong-pair n t i) (n + n))
-
-  -- the last row is no lower row
-  last-right : (i : ℕ) → n + n ≤ i + 1 → lower-wrong i ≡ false
-  last-right i h = ap is-some (lowest-none (wrong-pair n t i) (n + n) (λ j l. below i j (omega arith)))
-
-  pub all-right : (i : ℕ) → n + n ≤ i + 1 → ((k : ℕ) → k < i → lower-wrong k ≡ false) → First lower-wrong (n + n) (n + n)
-  all-right i h b = record { within = omega arith; before = λ k l. go k (decLt k i); here = λ l. absurd (omega arith) }
-    where
-      go : (k : ℕ) → Dec (k < i) → lower-wrong k ≡ false
-      go k (yes l) = b k l
-      go k (no l) = last-right k (omega arith)
+-- row i is the lower row of a wrong pair
+abbrev pub lower-wrong : ℕ → Rows → ℕ → Bool
+lower-wrong n t i = is-some (lowest (wrong-pair n t i) (n + n))
 
 -- the rows of an accepted record are properly paired, and no more than there may be
 module _ (s : List ℕ) (r : Read) (e : read-of s ≡ accepted r) where

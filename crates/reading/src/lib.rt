@@ -1,9 +1,8 @@
 // The record reader: the last record of the bytes it is lent, its rows as packed words and the place of its outcomes, or refusal 9, 10 or 11.
 ghost use Rattle.packing.specs.View.{Words};
 ghost use Rattle.reading.specs.Answer.{Reads, Hands};
-ghost use Rattle.reading.specs.parts.Pairs.{Refuses};
+ghost use Rattle.reading.specs.parts.Refusing.{Refuses};
 
-mod pairs;
 mod trailer;
 
 use answers::Refusal;
@@ -43,8 +42,9 @@ pub fn read(bytes: &[u8], words: &mut Words) -> Last
     if bad < outcomes + 2 * (n * (n + 1)) {
         return refused(Refusal::BadByte(bad), words);
     }
-    read_rows::load::rows(bytes, start + outcomes, n, words);
-    let wrong = pairs::unpaired(words, n);
+    let at = start + outcomes;
+    read_rows::load::rows(bytes, at, n, words);
+    let wrong = pairing::unpaired(bytes, at, n, words);
     if wrong < n + n {
         return refused(Refusal::NotPaired(wrong), words);
     }
@@ -59,9 +59,8 @@ pub fn read(bytes: &[u8], words: &mut Words) -> Last
 pub fn read_record<'b>(bytes: &'b [u8], words: &mut Words, answer: &mut [u64; 4]) -> &'b [u8]
     ensures { λ r. ⌜ Hands (now (bytes .entry)) (now r) (now (words .exit)) (now (answer .exit)) ⌝ }
 {
-    let mut w = [0u64; packing::WORDS];
-    let found = read(bytes, &mut w);
-    *words = w;
+    *words = [0u64; packing::WORDS];
+    let found = read(bytes, words);
     match found {
         Last::Record {
             start,

@@ -23,12 +23,12 @@ numbered-high n t i =
     let e : n + i - n ≡ i = omega arith in
     rw (le-ltb (n + i) n (omega arith), e)
 
-xor-same : (a b : Bool) → a ≡ b → a ⊕ b ≡ false
+pub xor-same : (a b : Bool) → a ≡ b → a ⊕ b ≡ false
 xor-same true true e = refl
 xor-same true false e = absurd (true≢false e)
 xor-same false b e = sym e
 
-same-xor : (a b : Bool) → a ⊕ b ≡ false → a ≡ b
+pub same-xor : (a b : Bool) → a ⊕ b ≡ false → a ≡ b
 same-xor true true e = refl
 same-xor true false e = absurd (true≢false e)
 same-xor false b e = sym e

@@ -1,6 +1,6 @@
 -- A trailer is known by the numbers that stand in it. Assumes nothing.
 use mathlib.Core.Path.{_≡_, refl, sym, _∙_, ap, ap₂}
-use mathlib.Core.Bool.{Bool, true, false, _&&_, true≢false}
+use mathlib.Core.Bool.{Bool, true, _&&_}
 use mathlib.Core.List.{List, [], _∷_, _++_}
 use Prim.Native.Nat.{ℕ, _+_}
 use native.Mathlib.Omega.{arith}
@@ -8,6 +8,7 @@ use lib.Dec.{eqb}
 use lib.ListN.{length, getD, take, drop, take-append-drop, length-drop}
 use lib.Seq.{length-take-le, take-add, getD-drop}
 use borrow.Author.Tests.{eqb-true}
+use Rattle.pauli.proofs.LetterLaws.{both}
 use Rattle.records.specs.Record.{low-first, to-rows, trailer}
 use Rattle.records.specs.Reading.{number-in}
 use Rattle.records.proofs.Numbers.{Bytes, low-part, bytes-take, bytes-drop}
@@ -18,10 +19,6 @@ two [] a b h e f = absurd (omega arith)
 two (c ∷ []) a b h e f = absurd (omega arith)
 two (c ∷ d ∷ []) a b h e f = ap₂ (λ x y. x ∷ y ∷ []) e f
 two (c ∷ d ∷ x ∷ l) a b h e f = absurd (omega arith)
-
-both : (a b : Bool) → (a && b) ≡ true → (a ≡ true) × (b ≡ true)
-both true b e = (refl, e)
-both false b e = absurd (true≢false (sym e))
 
 -- twelve bytes that say a trailer's numbers are that trailer
 pub trailer-again : (w : List ℕ) (n count : ℕ) → length w ≡ 12 → Bytes w → number-in (take 4 w) ≡ to-rows n → number-in (take 4 (drop 4 w)) ≡ to-rows n + count

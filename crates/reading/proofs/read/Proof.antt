@@ -77,8 +77,8 @@ returns-2 c =
     let s = e .before .before .before .args .bytes .now in
     refusing s (BadByte _) _ _ (c .refused2 .ensures) (bad-byte s _ _ _ (is-end e) (a .before .before .qubits .ensures .0) (a .before .first .ensures .0) (a .second .ensures .0) (b .bad .result) (b .bad .ensures) (c .before .before .if2 .taken))
 
-add-rows : tie.Need-add-rows
-add-rows c = search needs
+add-at : tie.Need-add-at
+add-at c = search needs
 
 rows-requires : tie.Need-rows-requires
 rows-requires c κs =
@@ -88,7 +88,7 @@ rows-requires c κs =
 unpaired-requires : tie.Need-unpaired-requires
 unpaired-requires c κs =
     let k = known (c .before .before .before .before .before) in
-    (k .least, k .most, c .before .rows .ensures .only)
+    (k .most, omega (arith, k), c .before .rows .ensures)
 
 add-if3 : tie.Need-add-if3
 add-if3 c = search needs
@@ -141,7 +141,7 @@ read-spec =
     add-if2-2
     refused-requires-2
     returns-2
-    add-rows
+    add-at
     rows-requires
     unpaired-requires
     add-if3

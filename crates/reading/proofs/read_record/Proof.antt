@@ -12,16 +12,16 @@ read-requires c κs = search needs
 enum-known-found : tie.Need-enum-known-found
 enum-known-found c = search needs
 
-inside : (c : tie.After-found) → Within (c .before .before .before .before .before .args .bytes .now) (c .found .given .0 .1 .1 .0) (c .found .given .0 .0) (c .found .given .0 .1 .0)
+inside : (c : tie.After-found) → Within (c .before .before .before .before .before .before .args .bytes .now) (c .found .given .0 .1 .1 .0) (c .found .given .0 .0) (c .found .given .0 .1 .0)
 inside c =
     let r = c .before .before in
-    within (c .before .before .before .before .before .args .bytes .now) (r .read .result) _ (r .read .ensures) _ _ _ (c .found .given .1)
+    within (c .before .before .before .before .before .before .args .bytes .now) (r .read .result) _ (r .read .ensures) _ _ _ (c .found .given .1)
 
 add-end : tie.Need-add-end
 add-end c = omega (arith, inside (c .before))
 
-sub-t15 : tie.Need-sub-t15
-sub-t15 c = omega (arith, inside (c .before))
+sub-t13 : tie.Need-sub-t13
+sub-t13 c = omega (arith, inside (c .before))
 
 sub-result : tie.Need-sub-result
 sub-result c = search needs
@@ -54,13 +54,13 @@ returns : tie.Need-returns
 returns c =
     let f = c .before .before .before in
     let r = f .before .before in
-    hands-record (f .before .before .before .before .before .args .bytes .now) (r .read .result) _ (r .read .ensures) _ _ _ (f .found .given .1)
+    hands-record (f .before .before .before .before .before .before .args .bytes .now) (r .read .result) _ (r .read .ensures) _ _ _ (f .found .given .1)
 
 returns-2 : tie.Need-returns-2
 returns-2 c =
     let f = c .before .before .before .before .before in
     let r = f .before .before in
-    hands-refused (f .before .before .before .before .before .args .bytes .now) (r .read .result) _ (r .read .ensures) _ _ _ (f .found2 .given .1) (c .before .before .before .number .ensures) (c .before .before .place .ensures)
+    hands-refused (f .before .before .before .before .before .before .args .bytes .now) (r .read .result) _ (r .read .ensures) _ _ _ (f .found2 .given .1) (c .before .before .before .number .ensures) (c .before .before .place .ensures)
 
 pub read-record-spec : {M : Type 1} → statement M
 read-record-spec =
@@ -69,7 +69,7 @@ read-record-spec =
     read-requires
     enum-known-found
     add-end
-    sub-t15
+    sub-t13
     sub-result
     part-result-start
     part-result-end

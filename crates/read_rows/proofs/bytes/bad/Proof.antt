@@ -1,5 +1,6 @@
 -- `read_rows::bytes::bad` meets its contract: the outcomes, and the rows behind them. Assumes nothing.
-use Rattle.read_rows.proofs.Places.{both, look-all}
+use Rattle.pauli.proofs.LetterLaws.{both}
+use Rattle.read_rows.proofs.Places.{look-all}
 use native.Mathlib.Omega.{arith}
 use Prim.Native.Nat.{_*_, _+_, _≤_}
 use Rattle.read_rows.proofs.Places.{in-front, in-back, mark-place, behind-place}
