@@ -1,7 +1,7 @@
 // Reads a whole circuit text: line 1, one pass over the operation lines, and the check.
 ghost use mathlib.Core.Path.{_≡_};
 ghost use Prim.Native.Nat.{_≤_};
-ghost use lib.ListN.{drop};
+ghost use lib.ListN.{length, drop};
 ghost use Rattle.limits.specs.Limits.{most-qubits, most-operations};
 ghost use Rattle.answers.specs.Verdict.{accepted, then};
 ghost use Rattle.circuit.specs.Text.{operations};
@@ -59,7 +59,7 @@ fn judged_at(s: &[u8], at: usize, n: usize, line: usize) -> Turn
 }
 
 fn turn_at(s: &[u8], at: usize, n: usize, line: usize) -> Turn
-    requires { ⌜ n ≤ most-qubits ⌝ }
+    requires { ⌜ (n ≤ most-qubits) × (at ≤ length (now s)) ⌝ }
     ensures { λ r. ⌜ TurnAt (now (s .entry)) at n line r ⌝ }
 {
     let found = quick_lines::usual::line_at(s, at, n);

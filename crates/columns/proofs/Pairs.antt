@@ -53,69 +53,71 @@ turned true = tested (bool ∷ bool ∷ bool ∷ bool ∷ bool ∷ []) bool _ _ 
 turned false = tested (bool ∷ bool ∷ bool ∷ bool ∷ bool ∷ []) bool _ _ tt
 
 module _ {w w1 w2 w3 : List ℕ} (a b y : ℕ) (al : a < most-qubits) (bl : b < most-qubits) (d : a ≢ b) where
-  cx-gate : ((s : ℕ) → bit (s % 64) y ≡ true) → Changed sign-words (λ s. bit-at w sign-words s ⊕ two-turns w (8 * a) (8 * a + 4) (8 * b + 4) (8 * b) y s) w w1
-      → Changed (8 * a + 4) (λ s. bit-at w1 (8 * a + 4) s ⊕ bit-at w1 (8 * b + 4) s) w1 w2
-      → Changed (8 * b) (λ s. bit-at w2 (8 * b) s ⊕ bit-at w2 (8 * a) s) w2 w3 → Gated (two Cx a b) w w3
+  cx-gate : ((s : ℕ) → bit (s % 64) y ≡ true) → Changed (8 * a + 4) (λ s. bit-at w (8 * a + 4) s ⊕ bit-at w (8 * b + 4) s) w w1
+      → Changed (8 * b) (λ s. bit-at w1 (8 * b) s ⊕ bit-at w1 (8 * a) s) w1 w2
+      → Changed sign-words (λ s. bit-at w2 sign-words s ⊕ two-turns w (8 * a) (8 * a + 4) (8 * b + 4) (8 * b) y s) w2 w3 → Gated (two Cx a b) w w3
   cx-gate ey c1 c2 c3 =
       two-gate Cx a b w w3 (c3 .words)
-      (λ s l. elsewhere c3 sign-words s l (λ h. omega arith) (λ h. omega arith) ∙ elsewhere c2 sign-words s l (λ h. omega arith) (λ h. omega arith) ∙ c1 .bits s l
-      ∙ ap (λ (c : Bool). bit-at w sign-words s ⊕ ((bit-at w (8 * a) s && bit-at w (8 * b + 4) s) && ((bit-at w (8 * a + 4) s ⊕ bit-at w (8 * b) s) ⊕ c))) (ey s)
+      (λ s l. c3 .bits s l
+      ∙ ap₂ (λ (m c : Bool). m ⊕ ((bit-at w (8 * a) s && bit-at w (8 * b + 4) s) && ((bit-at w (8 * a + 4) s ⊕ bit-at w (8 * b) s) ⊕ c)))
+      (elsewhere c2 sign-words s l (λ h. omega arith) (λ h. omega arith) ∙ elsewhere c1 sign-words s l (λ h. omega arith) (λ h. omega arith)) (ey s)
       ∙ turned true (bit-at w sign-words s) (bit-at w (8 * a) s) (bit-at w (8 * a + 4) s) (bit-at w (8 * b) s) (bit-at w (8 * b + 4) s))
       (λ s l. ap₂ letter (x-kept a s l al (λ e. d e))
-      (elsewhere c3 (8 * a + 4) s l (λ h. omega arith) (λ h. omega arith) ∙ c2 .bits s l ∙ ap₂ _⊕_ (signs (8 * a + 4) s l (omega arith)) (signs (8 * b + 4) s l (omega arith)))
+      (last (8 * a + 4) s l (omega arith) ∙ elsewhere c2 (8 * a + 4) s l (λ h. omega arith) (λ h. omega arith) ∙ c1 .bits s l)
       ∙ simp (x-letter, z-letter))
       (λ s l. ap₂ letter
-      (c3 .bits s l ∙ ap₂ _⊕_ (x-first b s l bl) (x-first a s l al))
+      (last (8 * b) s l (omega arith) ∙ c2 .bits s l ∙ ap₂ _⊕_ (x-first b s l bl) (x-first a s l al))
       (z-kept b s l bl (λ e. d (sym e)))
       ∙ simp (x-letter, z-letter))
       (λ s j l jl da db. ap₂ letter (x-kept j s l jl db) (z-kept j s l jl da))
     where
-      signs : (p s : ℕ) → s < row-count → p + 4 ≤ sign-words → bit-at w1 p s ≡ bit-at w p s
-      signs p s l h = beside-signs c1 p s l h
+      last : (p s : ℕ) → s < row-count → p + 4 ≤ sign-words → bit-at w3 p s ≡ bit-at w2 p s
+      last p s l h = beside-signs c3 p s l h
 
-      x-first : (j s : ℕ) → s < row-count → j < most-qubits → bit-at w2 (8 * j) s ≡ bit-at w (8 * j) s
-      x-first j s l jl = elsewhere c2 (8 * j) s l (λ h. omega arith) (λ h. omega arith) ∙ signs (8 * j) s l (omega arith)
+      x-first : (j s : ℕ) → s < row-count → j < most-qubits → bit-at w1 (8 * j) s ≡ bit-at w (8 * j) s
+      x-first j s l jl = elsewhere c1 (8 * j) s l (λ h. omega arith) (λ h. omega arith)
 
       x-kept : (j s : ℕ) → s < row-count → j < most-qubits → j ≢ b → bit-at w3 (8 * j) s ≡ bit-at w (8 * j) s
-      x-kept j s l jl e = elsewhere c3 (8 * j) s l (λ h. omega arith) (λ h. omega arith) ∙ x-first j s l jl
+      x-kept j s l jl e = last (8 * j) s l (omega arith) ∙ elsewhere c2 (8 * j) s l (λ h. omega arith) (λ h. omega arith) ∙ x-first j s l jl
 
       z-kept : (j s : ℕ) → s < row-count → j < most-qubits → j ≢ a → bit-at w3 (8 * j + 4) s ≡ bit-at w (8 * j + 4) s
       z-kept j s l jl e =
-          elsewhere c3 (8 * j + 4) s l (λ h. omega arith) (λ h. omega arith) ∙ elsewhere c2 (8 * j + 4) s l (λ h. omega arith) (λ h. omega arith)
-          ∙ signs (8 * j + 4) s l (omega arith)
+          last (8 * j + 4) s l (omega arith) ∙ elsewhere c2 (8 * j + 4) s l (λ h. omega arith) (λ h. omega arith)
+          ∙ elsewhere c1 (8 * j + 4) s l (λ h. omega arith) (λ h. omega arith)
 
-  cz-gate : ((s : ℕ) → bit (s % 64) y ≡ false) → Changed sign-words (λ s. bit-at w sign-words s ⊕ two-turns w (8 * a) (8 * a + 4) (8 * b) (8 * b + 4) y s) w w1
-      → Changed (8 * a + 4) (λ s. bit-at w1 (8 * a + 4) s ⊕ bit-at w1 (8 * b) s) w1 w2
-      → Changed (8 * b + 4) (λ s. bit-at w2 (8 * b + 4) s ⊕ bit-at w2 (8 * a) s) w2 w3 → Gated (two Cz a b) w w3
+  cz-gate : ((s : ℕ) → bit (s % 64) y ≡ false) → Changed (8 * a + 4) (λ s. bit-at w (8 * a + 4) s ⊕ bit-at w (8 * b) s) w w1
+      → Changed (8 * b + 4) (λ s. bit-at w1 (8 * b + 4) s ⊕ bit-at w1 (8 * a) s) w1 w2
+      → Changed sign-words (λ s. bit-at w2 sign-words s ⊕ two-turns w (8 * a) (8 * a + 4) (8 * b) (8 * b + 4) y s) w2 w3 → Gated (two Cz a b) w w3
   cz-gate ey c1 c2 c3 =
       two-gate Cz a b w w3 (c3 .words)
-      (λ s l. elsewhere c3 sign-words s l (λ h. omega arith) (λ h. omega arith) ∙ elsewhere c2 sign-words s l (λ h. omega arith) (λ h. omega arith) ∙ c1 .bits s l
-      ∙ ap (λ (c : Bool). bit-at w sign-words s ⊕ ((bit-at w (8 * a) s && bit-at w (8 * b) s) && ((bit-at w (8 * a + 4) s ⊕ bit-at w (8 * b + 4) s) ⊕ c))) (ey s)
+      (λ s l. c3 .bits s l
+      ∙ ap₂ (λ (m c : Bool). m ⊕ ((bit-at w (8 * a) s && bit-at w (8 * b) s) && ((bit-at w (8 * a + 4) s ⊕ bit-at w (8 * b + 4) s) ⊕ c)))
+      (elsewhere c2 sign-words s l (λ h. omega arith) (λ h. omega arith) ∙ elsewhere c1 sign-words s l (λ h. omega arith) (λ h. omega arith)) (ey s)
       ∙ turned false (bit-at w sign-words s) (bit-at w (8 * a) s) (bit-at w (8 * a + 4) s) (bit-at w (8 * b) s) (bit-at w (8 * b + 4) s))
       (λ s l. ap₂ letter (x-kept a s l al)
-      (elsewhere c3 (8 * a + 4) s l (λ h. omega arith) (λ h. omega arith) ∙ c2 .bits s l ∙ ap₂ _⊕_ (signs (8 * a + 4) s l (omega arith)) (signs (8 * b) s l (omega arith)))
+      (last (8 * a + 4) s l (omega arith) ∙ elsewhere c2 (8 * a + 4) s l (λ h. omega arith) (λ h. omega arith) ∙ c1 .bits s l)
       ∙ simp (x-letter, z-letter))
       (λ s l. ap₂ letter (x-kept b s l bl)
-      (c3 .bits s l ∙ ap₂ _⊕_ (z-first b s l bl (λ e. d (sym e))) (x-first a s l al))
+      (last (8 * b + 4) s l (omega arith) ∙ c2 .bits s l ∙ ap₂ _⊕_ (z-first b s l bl (λ e. d (sym e))) (x-first a s l al))
       ∙ simp (x-letter, z-letter))
-      (λ s j l jl da db. ap₂ letter (x-kept j s l jl) (elsewhere c3 (8 * j + 4) s l (λ h. omega arith) (λ h. omega arith) ∙ z-first j s l jl da))
+      (λ s j l jl da db. ap₂ letter (x-kept j s l jl) (last (8 * j + 4) s l (omega arith) ∙ elsewhere c2 (8 * j + 4) s l (λ h. omega arith) (λ h. omega arith) ∙ z-first j s l jl da))
     where
-      signs : (p s : ℕ) → s < row-count → p + 4 ≤ sign-words → bit-at w1 p s ≡ bit-at w p s
-      signs p s l h = beside-signs c1 p s l h
+      last : (p s : ℕ) → s < row-count → p + 4 ≤ sign-words → bit-at w3 p s ≡ bit-at w2 p s
+      last p s l h = beside-signs c3 p s l h
 
-      x-first : (j s : ℕ) → s < row-count → j < most-qubits → bit-at w2 (8 * j) s ≡ bit-at w (8 * j) s
-      x-first j s l jl = elsewhere c2 (8 * j) s l (λ h. omega arith) (λ h. omega arith) ∙ signs (8 * j) s l (omega arith)
+      x-first : (j s : ℕ) → s < row-count → j < most-qubits → bit-at w1 (8 * j) s ≡ bit-at w (8 * j) s
+      x-first j s l jl = elsewhere c1 (8 * j) s l (λ h. omega arith) (λ h. omega arith)
 
       x-kept : (j s : ℕ) → s < row-count → j < most-qubits → bit-at w3 (8 * j) s ≡ bit-at w (8 * j) s
-      x-kept j s l jl = elsewhere c3 (8 * j) s l (λ h. omega arith) (λ h. omega arith) ∙ x-first j s l jl
+      x-kept j s l jl = last (8 * j) s l (omega arith) ∙ elsewhere c2 (8 * j) s l (λ h. omega arith) (λ h. omega arith) ∙ x-first j s l jl
 
-      z-first : (j s : ℕ) → s < row-count → j < most-qubits → j ≢ a → bit-at w2 (8 * j + 4) s ≡ bit-at w (8 * j + 4) s
-      z-first j s l jl e = elsewhere c2 (8 * j + 4) s l (λ h. omega arith) (λ h. omega arith) ∙ signs (8 * j + 4) s l (omega arith)
+      z-first : (j s : ℕ) → s < row-count → j < most-qubits → j ≢ a → bit-at w1 (8 * j + 4) s ≡ bit-at w (8 * j + 4) s
+      z-first j s l jl e = elsewhere c1 (8 * j + 4) s l (λ h. omega arith) (λ h. omega arith)
 
   -- either of them, by the words that are picked
   pub two-picked : (c : Bool) (p q : ℕ) → p ≡ cond c (8 * b + 4) (8 * b) → q ≡ cond c (8 * b) (8 * b + 4) → ((s : ℕ) → bit (s % 64) y ≡ c)
-      → Changed sign-words (λ s. bit-at w sign-words s ⊕ two-turns w (8 * a) (8 * a + 4) p q y s) w w1
-      → Changed (8 * a + 4) (λ s. bit-at w1 (8 * a + 4) s ⊕ bit-at w1 p s) w1 w2
-      → Changed q (λ s. bit-at w2 q s ⊕ bit-at w2 (8 * a) s) w2 w3 → Gated (two (cond c Cx Cz) a b) w w3
-  two-picked true p q ep eq ey c1 c2 c3 = cx-gate ey (rw (ep, eq) at c1) (rw ep at c2) (rw eq at c3)
-  two-picked false p q ep eq ey c1 c2 c3 = cz-gate ey (rw (ep, eq) at c1) (rw ep at c2) (rw eq at c3)
+      → Changed (8 * a + 4) (λ s. bit-at w (8 * a + 4) s ⊕ bit-at w p s) w w1
+      → Changed q (λ s. bit-at w1 q s ⊕ bit-at w1 (8 * a) s) w1 w2
+      → Changed sign-words (λ s. bit-at w2 sign-words s ⊕ two-turns w (8 * a) (8 * a + 4) p q y s) w2 w3 → Gated (two (cond c Cx Cz) a b) w w3
+  two-picked true p q ep eq ey c1 c2 c3 = cx-gate ey (rw ep at c1) (rw eq at c2) (rw (ep, eq) at c3)
+  two-picked false p q ep eq ey c1 c2 c3 = cz-gate ey (rw ep at c1) (rw eq at c2) (rw (ep, eq) at c3)

@@ -110,9 +110,9 @@ pub fn two(w: &mut Words, cx: bool, a: usize, b: usize)
     let q = index(cx, xb, zb);
     let y = words::when(cx, u64::MAX);
     let turned = two_turns(w, xa, za, p, q, y);
-    turn(w, turned);
     add(w, za, p);
     add(w, q, xa);
+    turn(w, turned);
 }
 
 pub fn gate(w: &mut Words, g: Gate)

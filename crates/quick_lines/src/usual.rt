@@ -67,16 +67,12 @@ fn starts(first: u8, more: bool) -> bool
     (first <= 57) & (48 + one_if(more) <= first as usize)
 }
 
-// The number of one or two digits that these bytes make.
+// The number of one or two digits that these bytes make. A product takes the second digit in or leaves it out: of an `if` the compiler makes a jump here.
 fn value(first: u8, more: bool, second: u8) -> usize
     ensures { λ r. ⌜ r ≡ cond more (10 * (first % 16) + second % 16) (first % 16) ⌝ }
 {
     let d = (first % 16) as usize;
-    if more {
-        10 * d + (second % 16) as usize
-    } else {
-        d
-    }
+    d + one_if(more) * (9 * d + (second % 16) as usize)
 }
 
 // The number of three digits that these bytes make; n where they make none.
@@ -168,13 +164,10 @@ fn two_at(s: &[u8], at: usize, n: usize) -> usize
 }
 
 pub fn line_at(s: &[u8], at: usize, n: usize) -> usize
-    requires { ⌜ n ≤ most-qubits ⌝ }
+    requires { ⌜ (n ≤ most-qubits) × (at ≤ length (now s)) ⌝ }
     ensures { λ r. ⌜ Usual (now (s .entry)) at n r ⌝ }
 {
-    if s.len() < 11 {
-        return 0;
-    }
-    if s.len() - 11 < at {
+    if s.len() - at < 11 {
         return 0;
     }
     let c = s[at];

@@ -124,7 +124,7 @@ fn turn(
     coins: &[u8],
     tally: Tally,
 ) -> Step
-    requires { ⌜ Room n (now coins) (now words) (now marks) tally ⌝ }
+    requires { ⌜ Room n (now coins) (now words) (now marks) tally × (at ≤ length (now text)) ⌝ }
     ensures { λ r. ⌜ StepAs (now (text .entry)) at n (now (coins .entry)) (now (words .entry)) (now (marks .entry)) tally r (now (words .exit)) (now (marks .exit)) ⌝ }
 {
     let code = quick_lines::op_at(text, at, n);

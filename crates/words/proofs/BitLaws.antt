@@ -64,10 +64,6 @@ pub bit-ones : (m k : ℕ) → k < m → bit k (2 ^ m - 1) ≡ true
 bit-ones m k h = right (bit k (2 ^ k)) _ (sym (bit-and k (2 ^ k) (2 ^ m - 1)) ∙ ap (bit k) (and-mask (2 ^ k) m ∙ mod-eq-of-lt (pow-lt h)) ∙ bit-own k)
 
 -- a test of bit j, as the code's `(w >> j) & 1 == 1` has it
-pub bit-set : (j w : ℕ) → bitAnd (w / 2 ^ j) 1 ≡ 1 → bit j w ≡ true
-unfolding bit
-bit-set j w e = eq-eqb (w / 2 ^ j % 2) 1 (sym (and-mask (w / 2 ^ j) 1) ∙ e)
-
 pub bit-clear : (j w : ℕ) → (bitAnd (w / 2 ^ j) 1 ≡ 1 → ⊥) → bit j w ≡ false
 unfolding bit
 bit-clear j w e = ne-eqb (w / 2 ^ j % 2) 1 (λ h. e (and-mask (w / 2 ^ j) 1 ∙ h))

@@ -41,24 +41,28 @@ two-turns-requires c κs =
     let e = c .before .before .before .before in
     (omega arith, omega arith, (picked-in _ (e .args .cx) (8 * e .args .b + 4) (8 * e .args .b) word-count (c .before .before .before .index .ensures) (omega arith) (omega arith)), (picked-in _ (e .args .cx) (8 * e .args .b) (8 * e .args .b + 4) word-count (c .before .before .index2 .ensures) (omega arith) (omega arith)))
 
-turn-requires : tie.Need-turn-requires
-turn-requires c κs = search needs
-
 add-requires : tie.Need-add-requires
 add-requires c κs =
-    let e = c .before .before .before .before .before .before .before .before in
-    (c .before .turn .ensures .words, omega arith, (picked-in _ (e .args .cx) (8 * e .args .b + 4) (8 * e .args .b) word-count (c .before .before .before .before .before .before .before .index .ensures) (omega arith) (omega arith)))
+    let i = c .before .before .before .before .before in
+    let e = i .before in
+    (e .pre .0, omega arith, (picked-in _ (e .args .cx) (8 * e .args .b + 4) (8 * e .args .b) word-count (i .index .ensures) (omega arith) (omega arith)))
 
 add-requires-2 : tie.Need-add-requires-2
 add-requires-2 c κs =
-    let e = c .before .before .before .before .before .before .before .before .before .before in
-    (c .before .add .ensures .words, (picked-in _ (e .args .cx) (8 * e .args .b) (8 * e .args .b + 4) word-count (c .before .before .before .before .before .before .before .before .index2 .ensures) (omega arith) (omega arith)), omega arith)
+    let i = c .before .before .before .before .before .before in
+    let e = i .before .before in
+    (c .before .add .ensures .words, (picked-in _ (e .args .cx) (8 * e .args .b) (8 * e .args .b + 4) word-count (i .index2 .ensures) (omega arith) (omega arith)), omega arith)
+
+turn-requires : tie.Need-turn-requires
+turn-requires c κs = search needs
 
 returns : tie.Need-returns
 returns c =
-    let e = c .before .before .before .before .before .before .before .before .before .before .before in
-    two-picked (e .args .a) (e .args .b) _ (e .pre .1) (e .pre .2) (e .pre .3) (e .args .cx) _ _ (c .before .before .before .before .before .before .before .before .before .before .index .ensures) (c .before .before .before .before .before .before .before .before .before .index2 .ensures) (λ s. all-or-none _ (e .args .cx) s (c .before .before .before .before .before .before .before .before .when .ensures))
-    (turned-by _ (c .before .before .before .before .turn .ensures) (c .before .before .before .before .before .before .two-turns .ensures)) (c .before .before .add .ensures) (c .add2 .ensures)
+    let t = c .before .before .before .before .before .before in
+    let i = t .before .before .before in
+    let e = i .before .before in
+    two-picked (e .args .a) (e .args .b) _ (e .pre .1) (e .pre .2) (e .pre .3) (e .args .cx) _ _ (i .before .index .ensures) (i .index2 .ensures) (λ s. all-or-none _ (e .args .cx) s (t .before .before .when .ensures))
+    (c .before .before .before .before .add .ensures) (c .before .before .add2 .ensures) (turned-by _ (c .turn .ensures) (t .two-turns .ensures))
 
 pub two-spec : {M : Type 1} → statement M
 two-spec =
@@ -74,7 +78,7 @@ two-spec =
     index-requires-2
     when-requires
     two-turns-requires
-    turn-requires
     add-requires
     add-requires-2
+    turn-requires
     returns)

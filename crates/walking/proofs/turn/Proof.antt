@@ -39,7 +39,7 @@ measure-requires c κs =
     let o = c .before .before .before .before .before .before .before .before .op-at in
     let w = o .ensures .allows (omega (arith, c .before .before .before .before .before .before .before .if1 .left)) in
     let f = c .before .before .first in
-    (e .pre, rw (is-measure (o .result) (c .before .before .before .before .before .name .result) (f .result) (c .before .before .before .before .before .name .ensures) (f .ensures) (c .before .before .before .before .if2 .taken)) at (allowed-valid (e .args .text .now) (e .args .at) (e .args .n) (o .result) w))
+    (e .pre .0, rw (is-measure (o .result) (c .before .before .before .before .before .name .result) (f .result) (c .before .before .before .before .before .name .ensures) (f .ensures) (c .before .before .before .before .if2 .taken)) at (allowed-valid (e .args .text .now) (e .args .at) (e .args .n) (o .result) w))
 
 returns-2 : tie.Need-returns-2
 returns-2 c =
@@ -57,12 +57,12 @@ apply-requires c κs =
     let a = c .before .before .before .before .before .before .before .before .args in
     let code = c .before .before .before .before .before .op-at .result in
     let w = c .before .before .before .before .before .op-at .ensures .allows (omega (arith, c .before .before .before .before .if1 .left)) in
-    (c .before .before .before .before .before .before .before .before .pre .holds .words, valid-op most-qubits (op-in code) (below-more (a .n) most-qubits (op-in code) (c .before .before .before .before .before .before .before .before .pre .qubits) (w .below)) (w .parted), λ e. c .before .if2 .left (c .before .before .name .ensures ∙ e))
+    (c .before .before .before .before .before .before .before .before .pre .0 .holds .words, valid-op most-qubits (op-in code) (below-more (a .n) most-qubits (op-in code) (c .before .before .before .before .before .before .before .before .pre .0 .qubits) (w .below)) (w .parted), λ e. c .before .if2 .left (c .before .before .name .ensures ∙ e))
 
 returns-3 : tie.Need-returns-3
 returns-3 c =
     let a = c .before .before .before .before .before .before .before .before .before .args in
-    applied-step (a .text .now) (a .at) (a .n) (c .before .before .before .before .before .before .op-at .result) _ (a .coins .now) (a .words .now) (a .marks .now) (a .tally) _ (c .before .before .before .before .before .before .before .before .before .pre .qubits) (c .before .before .before .before .before .before .op-at .ensures .allows (omega (arith, c .before .before .before .before .before .if1 .left))) (ap (λ (k : ℕ). a .at + k) (c .before .before .before .before .length .ensures)) (c .apply .ensures)
+    applied-step (a .text .now) (a .at) (a .n) (c .before .before .before .before .before .before .op-at .result) _ (a .coins .now) (a .words .now) (a .marks .now) (a .tally) _ (c .before .before .before .before .before .before .before .before .before .pre .0 .qubits) (c .before .before .before .before .before .before .op-at .ensures .allows (omega (arith, c .before .before .before .before .before .if1 .left))) (ap (λ (k : ℕ). a .at + k) (c .before .before .before .before .length .ensures)) (c .apply .ensures)
 
 pub turn-spec : {M : Type 1} → statement M
 turn-spec =

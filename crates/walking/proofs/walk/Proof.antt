@@ -29,7 +29,7 @@ turn-requires : tie.Need-turn-requires Inv-loop μ-loop
 turn-requires c κs =
     let e = c .before .before .before .before .before .before .before in
     let l = c .before .before .before .before .loop in
-    walk-room (e .args .text .now) (e .args .body) (e .args .n) (e .args .coins .now) (l .words) (l .marks) (l .tally) (l .at) (l .line) (l .inv) (e .pre .qubits) (c .before .before .if1 .left)
+    (walk-room (e .args .text .now) (e .args .body) (e .args .n) (e .args .coins .now) (l .words) (l .marks) (l .tally) (l .at) (l .line) (l .inv) (e .pre .qubits) (c .before .before .if1 .left), search needs)
 
 enum-known-next : tie.Need-enum-known-next Inv-loop μ-loop
 enum-known-next c = search needs
