@@ -9,7 +9,7 @@ use Rattle.pauli.specs.Letters.{Letter, I, Z, _⊕_, x, differ}
 use Rattle.pauli.specs.Rows.{Letters, anticommute, Row, times-row}
 use Rattle.pauli.proofs.Cases.{tested, bit, ltr}
 use Rattle.pauli.proofs.Sums.{sum-cong, sum-one}
-use Rattle.pauli.proofs.LetterLaws.{xor-adds}
+use Rattle.pauli.proofs.LetterLaws.{xor-adds, differ-none}
 use Rattle.pauli.proofs.RowLaws.{anticommute-self, anticommute-swap, anticommute-mul}
 use Rattle.clifford.specs.declared.Gate.{Gate}
 use Rattle.clifford.specs.Gates.{Fits}
@@ -30,12 +30,9 @@ anticommute-z n a r h = sum-cong xor-adds _ _ n (λ i b. go i (eqb i a) refl) �
     law : (l : Letter) → differ l Z ≡ x l
     law = tested (ltr ∷ []) bit _ _ tt
 
-    none : (l : Letter) → differ l I ≡ false
-    none = tested (ltr ∷ []) bit _ _ tt
-
     go : (i : ℕ) (c : Bool) → eqb i a ≡ c → differ (r i) (cond c Z I) ≡ cond c (x (r a)) false
     go i true e = rw (eqb-true i a e) (law (r a))
-    go i false e = none (r i)
+    go i false e = differ-none (r i)
 
 module _ (n a : ℕ) (p : Row) where
   anticommute-cleared : (r : Row) (w : Letters) → anticommute n (cleared n a p r .letters) w ≡ anticommute n (r .letters) w ⊕ (x (r .letters a) && anticommute n (p .letters) w)

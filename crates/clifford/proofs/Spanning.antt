@@ -4,7 +4,6 @@ use mathlib.Core.Bool.{Bool, true, false, _&&_, cond, true≢false}
 use mathlib.Core.List.{[], _∷_}
 use Prim.Native.Nat.{ℕ, zero, suc, _+_, _-_, _<_}
 use native.Mathlib.Omega.{arith}
-use native.Mathlib.Nat.{add-suc, add-zero}
 use lib.Dec.{ltb}
 use borrow.Author.Tests.{ltb-true, ltb-false, lt-ltb, le-ltb}
 use Rattle.pauli.specs.Letters.{Letter, I, _⊕_, x, z, letter, _·_}
@@ -13,7 +12,7 @@ use Rattle.pauli.specs.Rows.{Letters, anticommute, mul, odd-number}
 use Rattle.pauli.proofs.Cases.{tested, bit, ltr}
 use Rattle.pauli.proofs.Sums.{sum-cong, sum-plus, sum-zero, eqb-swap}
 use Rattle.pauli.proofs.LetterLaws.{xor-adds}
-use Rattle.pauli.proofs.RowLaws.{anticommute-mul, anticommute-swap}
+use Rattle.pauli.proofs.RowLaws.{odd-split, anticommute-mul, anticommute-swap}
 use Rattle.clifford.specs.Tableau.{Rows, Paired}
 use Rattle.clifford.proofs.Choices.{chosen, anticommute-chosen, only, dead}
 use Rattle.clifford.proofs.Dependent.{count, Dependence, dependent}
@@ -31,13 +30,6 @@ Spanned n t = (w : Letters) (b : ℕ) → b < n → expand n t w b ≡ w b
 count-all : (m : ℕ) → count (λ i. true) m ≡ m
 count-all zero = refl
 count-all (suc m) = omega (arith, count-all m)
-
-odd-number-split : (f : ℕ → Bool) (n k : ℕ) → odd-number f (n + k) ≡ odd-number f n ⊕ odd-number (λ i. f (n + i)) k
-odd-number-split f n zero = rw (add-zero n) (sym (xor-adds .right _))
-odd-number-split f n (suc k) = rw (add-suc n k, odd-number-split f n k) (law (odd-number f n) (odd-number (λ i. f (n + i)) k) (f (n + k)))
-  where
-    law : (a b c : Bool) → a ⊕ b ⊕ c ≡ a ⊕ (b ⊕ c)
-    law = tested (bit ∷ bit ∷ bit ∷ []) bit _ _ tt
 
 -- a bit of a product of chosen words
 bit-chosen : (f : Letter → Bool) → f I ≡ false → ((l m : Letter) → f (l · m) ≡ f l ⊕ f m) → (c : ℕ → Bool) (w : ℕ → Letters) (k b : ℕ) → f (chosen c w k b) ≡ odd-number (λ i. c i && f (w i b)) k
@@ -109,7 +101,7 @@ module _ (n : ℕ) (t : Rows) (p : Paired n t) (w : Letters)
 
   -- a sum over the rows by its three parts
   parts : (f : Letters → Bool) → odd-number (λ i. d .c i && f (row i)) (suc (n + n)) ≡ odd-number (λ i. d .c i && f (D i)) n ⊕ odd-number (λ i. d .c (n + i) && f (S i)) n ⊕ (d .c (n + n) && f w)
-  parts f = ap₂ _⊕_ (odd-number-split (λ i. d .c i && f (row i)) n n ∙ ap₂ _⊕_ (sum-cong xor-adds _ _ n (λ i h. rw (row-d i h))) (sum-cong xor-adds _ _ n (λ i h. rw (row-s i h)))) (ap (λ r. d .c (n + n) && f r) row-w)
+  parts f = ap₂ _⊕_ (odd-split (λ i. d .c i && f (row i)) n n ∙ ap₂ _⊕_ (sum-cong xor-adds _ _ n (λ i h. rw (row-d i h))) (sum-cong xor-adds _ _ n (λ i h. rw (row-s i h)))) (ap (λ r. d .c (n + n) && f r) row-w)
 
   balance : (u : Letters) → odd-number (λ i. d .c i && anticommute n (D i) u) n ⊕ odd-number (λ i. d .c (n + i) && anticommute n (S i) u) n ⊕ (d .c (n + n) && anticommute n w u) ≡ false
   unfolding all

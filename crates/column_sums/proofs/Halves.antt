@@ -1,18 +1,17 @@
 -- What the sums that a row picks tell of it: the two halves of its letters, put together. Assumes nothing.
 use mathlib.Core.Path.{_≡_, refl, sym, _∙_, ap, ap₂}
 use mathlib.Core.Bool.{Bool, true, false, cond}
-use mathlib.Core.List.{List, [], _∷_}
-use Prim.Native.Nat.{ℕ, zero, suc, _+_, _*_, _/_, _%_, _≤_, _<_}
+use mathlib.Core.List.{List}
+use Prim.Native.Nat.{ℕ, suc, _+_, _*_, _/_, _%_, _≤_, _<_}
 use native.Mathlib.Decide.{decLt}
-use native.Mathlib.Nat.{add-zero, add-suc}
 use native.Mathlib.Omega.{arith}
 use lib.ListN.{getD}
 use Rattle.limits.specs.Limits.{most-qubits}
-use Rattle.pauli.specs.Letters.{Letter, I, _⊕_, letter, differ, x, z}
+use Rattle.pauli.specs.Letters.{Letter, _⊕_, letter, differ, x, z}
 use Rattle.pauli.specs.Rows.{odd-number, anticommute}
 use Rattle.pauli.specs.Texts.{letter-of}
-use Rattle.pauli.proofs.Cases as cases
-use Rattle.pauli.proofs.LetterLaws.{xor-adds, letter-bits}
+use Rattle.pauli.proofs.LetterLaws.{xor-adds, letter-bits, differ-none}
+use Rattle.pauli.proofs.RowLaws.{odd-split}
 use Rattle.pauli.proofs.Sums.{sum-cong, sum-plus}
 use Rattle.words.specs.Bit.{bit}
 use Rattle.packing.specs.View.{row-count, Words, bit-at, letter-at, Holds}
@@ -23,14 +22,6 @@ use Rattle.column_sums.specs.parts.Sums.{spelled-number, letter-numbered
 use Rattle.column_sums.proofs.Picking.{number-small}
 
 -- ---- sums over two halves
-
-xor-assoc : (a b c : Bool) → a ⊕ b ⊕ c ≡ a ⊕ (b ⊕ c)
-xor-assoc = cases.tested (cases.bit ∷ cases.bit ∷ cases.bit ∷ []) cases.bit _ _ tt
-
-odd-split : (f : ℕ → Bool) (a b : ℕ) → odd-number f (a + b) ≡ odd-number f a ⊕ odd-number (λ j. f (a + j)) b
-odd-split f a zero = ap (odd-number f) (add-zero a) ∙ sym (xor-adds .right (odd-number f a))
-odd-split f a (suc b) =
-    ap (odd-number f) (add-suc a b) ∙ ap (λ (c : Bool). c ⊕ f (a + b)) (odd-split f a b) ∙ xor-assoc (odd-number f a) (odd-number (λ j. f (a + j)) b) (f (a + b))
 
 odd-halves : (f : ℕ → Bool) (half : ℕ) → odd-number (λ j. f j ⊕ f (half + j)) half ≡ odd-number f (half + half)
 odd-halves f half = sum-plus xor-adds f (λ j. f (half + j)) half ∙ sym (odd-split f half half)
@@ -96,10 +87,7 @@ module _ (bytes : List ℕ) (n : ℕ) (w t p : List ℕ) (row : ℕ) (most : n �
   picked-row s m =
       let f : ℕ → Bool = λ j. differ (spelled j) (letter-at w s j) in
       sum-cong xor-adds _ _ half (λ j l. picked-sum j s l m) ∙ odd-halves f half
-      ∙ odd-padded f n (λ l. ap (differ (spelled n)) (h .letters s n m (omega arith) (omega arith)) ∙ beside-I (spelled n))
-    where
-      beside-I : (l : Letter) → differ l I ≡ false
-      beside-I = cases.tested (cases.ltr ∷ []) cases.bit _ _ tt
+      ∙ odd-padded f n (λ l. ap (differ (spelled n)) (h .letters s n m (omega arith) (omega arith)) ∙ differ-none (spelled n))
 
 -- ---- all rows
 

@@ -1,7 +1,7 @@
 -- Words that tell which packed rows anticommute with each row of a record, and the first wrong pair. Assumes nothing.
 use mathlib.Core.Path.{_≡_, refl, sym, _∙_, ap, ap₂}
 use mathlib.Core.Bool.{Bool, true, false}
-use mathlib.Core.List.{List, [], _∷_}
+use mathlib.Core.List.{List}
 use mathlib.Core.Option.{Option, none, some}
 use Prim.Native.Nat.{ℕ, suc, _+_, _-_, _*_, _%_, _≤_, _<_}
 use native.Mathlib.Decide.{decLt}
@@ -13,11 +13,10 @@ use borrow.Author.Tests.{lt-ltb, le-ltb, ne-eqb}
 use Rattle.limits.specs.Limits.{most-qubits}
 use Rattle.answers.specs.First.{lowest}
 use Rattle.answers.proofs.First.{Answer, lowest-is, lowest-none}
-use Rattle.pauli.specs.Letters.{Letter, I, _⊕_, differ}
+use Rattle.pauli.specs.Letters.{_⊕_, differ}
 use Rattle.pauli.specs.Rows.{Row, Letters, anticommute}
 use Rattle.pauli.specs.Texts.{letter-of}
-use Rattle.pauli.proofs.Cases as cases
-use Rattle.pauli.proofs.LetterLaws.{xor-adds}
+use Rattle.pauli.proofs.LetterLaws.{xor-adds, differ-none}
 use Rattle.pauli.proofs.RowLaws.{anticommute-self, anticommute-swap}
 use Rattle.pauli.proofs.Sums.{sum-cong, sum-zero}
 use Rattle.packing.specs.View.{row-count, bit-at, letter-at, row-at, rows-of, Holds}
@@ -58,10 +57,7 @@ module _ (n : ℕ) (w : List ℕ) (most : n ≤ most-qubits) (held : Holds n w) 
   pair i j h l = rw (lt-ltb i j h) (ap₂ _⊕_ (same-letters n _ _ _ _ (λ q m. numbered-letter i q (omega arith) m) (λ q m. numbered-letter j q l m)) (sym (upper-partner n most i j h l)))
 
   no-row : (s t : ℕ) → t < row-count → n ≤ t % most-qubits → cross s t ≡ false
-  no-row s t h m = sum-cong xor-adds _ _ n (λ q u. ap (differ (letter-at w s q)) (sym (row-letter n w t q u) ∙ ap (λ (r : Row). r .letters q) (held .rows t h m)) ∙ none-differs (letter-at w s q)) ∙ sum-zero xor-adds n
-    where
-      none-differs : (l : Letter) → differ l I ≡ false
-      none-differs = cases.tested (cases.ltr ∷ []) cases.bit _ _ tt
+  no-row s t h m = sum-cong xor-adds _ _ n (λ q u. ap (differ (letter-at w s q)) (sym (row-letter n w t q u) ∙ ap (λ (r : Row). r .letters q) (held .rows t h m)) ∙ differ-none (letter-at w s q)) ∙ sum-zero xor-adds n
 
   module _ (found : List ℕ) (told : (i s : ℕ) → i < n + n → s < row-count → bit-at found (4 * i) s ≡ cross (number n i) s) where
     -- a row that is right is the lower row of no wrong pair

@@ -12,6 +12,10 @@ pub both : (a b : Bool) → (a && b) ≡ true → (a ≡ true) × (b ≡ true)
 both true b e = (refl, e)
 both false b e = absurd (true≢false (sym e))
 
+-- no letter differs from I
+pub differ-none : (l : Letter) → differ l I ≡ false
+differ-none = tested (ltr ∷ []) bit _ _ tt
+
 pub xor-adds : Adds false _⊕_
 xor-adds = record { left = tested (bit ∷ []) bit _ _ tt; right = tested (bit ∷ []) bit _ _ tt; medial = tested (bit ∷ bit ∷ bit ∷ bit ∷ []) bit _ _ tt }
 

@@ -3,12 +3,21 @@
 use mathlib.Core.Path.{_≡_, refl, sym, _∙_, ap}
 use mathlib.Core.Bool.{Bool, false}
 use mathlib.Core.List.{[], _∷_}
-use Prim.Native.Nat.{ℕ}
+use Prim.Native.Nat.{ℕ, zero, suc, _+_}
+use native.Mathlib.Nat.{add-zero, add-suc}
 use Rattle.pauli.specs.Letters.{Letter, Power, i0, _⊕_, _⊞_, sign, odd, differ}
-use Rattle.pauli.specs.Rows.{Letters, anticommute, total, mul, Phased, product, Row, phased, minus-sign, times-row}
+use Rattle.pauli.specs.Rows.{Letters, odd-number, anticommute, total, mul, Phased, product, Row, phased, minus-sign, times-row}
 use Rattle.pauli.proofs.Cases.{tested, bit, ltr, pow}
 use Rattle.pauli.proofs.Sums.{sum-cong, sum-plus, sum-map, sum-zero}
 use Rattle.pauli.proofs.LetterLaws.{xor-adds, power-adds, power-odd, power-swap, power-assoc, mul-assoc, differ-swap, differ-mul, odd-plus, sign-plus, even-sign}
+
+-- places one after another
+pub odd-split : (f : ℕ → Bool) (n k : ℕ) → odd-number f (n + k) ≡ odd-number f n ⊕ odd-number (λ i. f (n + i)) k
+odd-split f n zero = rw (add-zero n) (sym (xor-adds .right _))
+odd-split f n (suc k) = rw (add-suc n k, odd-split f n k) (law (odd-number f n) (odd-number (λ i. f (n + i)) k) (f (n + k)))
+  where
+    law : (a b c : Bool) → a ⊕ b ⊕ c ≡ a ⊕ (b ⊕ c)
+    law = tested (bit ∷ bit ∷ bit ∷ []) bit _ _ tt
 
 pub anticommute-self : (n : ℕ) (r : Letters) → anticommute n r r ≡ false
 anticommute-self n r = sum-cong xor-adds _ _ n (λ i b. law (r i)) ∙ sum-zero xor-adds n
