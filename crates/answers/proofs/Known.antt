@@ -4,7 +4,7 @@ use mathlib.Core.List.{List, [], _∷_}
 use Prim.Native.Nat.{ℕ}
 use lib.ListN.{getD}
 use Rattle.answers.specs.declared.Refusal.{Refusal}
-use Rattle.answers.specs.declared.Refusal.the-variants.{NotQubits, QubitCount, Malformed, NoSuchQubit, QubitTwice, TooManyOperations, NoCoin, NoRoom, NoRecord, BadByte, NotPaired, Anticommuting, RowLengths}
+use Rattle.answers.specs.declared.Refusal.the-variants.{NotQubits, QubitCount, Malformed, NoSuchQubit, QubitTwice, TooManyOperations, NoCoin, NoRoom, NoRecord, BadByte, NotPaired, Anticommuting, RowLengths, TooUnlikely, ReadoutLength}
 use Rattle.answers.specs.declared.Written.{Written}
 use Rattle.answers.specs.declared.Written.the-variants.{Bytes, Refused}
 use Rattle.answers.specs.Verdict.{Verdict, accepted, refused}
@@ -14,7 +14,7 @@ use Rattle.answers.specs.Refusals.{numberOf, placeOf, told-written, Writ
 abbrev named : ℕ → ℕ → Refusal
 named number p =
     getD
-    (NoRoom ∷ NotQubits ∷ QubitCount ∷ Malformed p ∷ NoSuchQubit p ∷ QubitTwice p ∷ TooManyOperations ∷ NoCoin p ∷ NoRoom ∷ NoRecord ∷ BadByte p ∷ NotPaired p ∷ Anticommuting ∷ RowLengths ∷ [])
+    (NoRoom ∷ NotQubits ∷ QubitCount ∷ Malformed p ∷ NoSuchQubit p ∷ QubitTwice p ∷ TooManyOperations ∷ NoCoin p ∷ NoRoom ∷ NoRecord ∷ BadByte p ∷ NotPaired p ∷ Anticommuting ∷ RowLengths ∷ TooUnlikely ∷ ReadoutLength ∷ [])
     number NoRoom
 
 named-again : (r : Refusal) → named (numberOf r) (placeOf r) ≡ r
@@ -31,6 +31,8 @@ named-again (BadByte at) = refl
 named-again (NotPaired row) = refl
 named-again Anticommuting = refl
 named-again RowLengths = refl
+named-again TooUnlikely = refl
+named-again ReadoutLength = refl
 
 abbrev back : Verdict ℕ → Written
 back (accepted count) = Bytes count

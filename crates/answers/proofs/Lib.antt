@@ -3,3 +3,4 @@ pub mod Known
 pub mod Writing
 pub mod Answered
 pub mod Numbered
+pub mod Accepting

@@ -1,11 +1,11 @@
--- The number and the place of each refusal: document 01's table; and the promise of a function that writes into a lent buffer. Assumes nothing.
+-- The number and the place of each refusal: document 01's table, with those of document 02 that are given; and the promise of a function that writes into a lent buffer. Assumes nothing.
 use mathlib.Core.Path.{_≡_}
 use mathlib.Core.List.{List}
 use Prim.Native.Nat.{ℕ, _+_}
 use lib.ListN.{length}
 use Rattle.limits.specs.Limits.{most-operations}
 use Rattle.answers.specs.declared.Refusal.{Refusal}
-use Rattle.answers.specs.declared.Refusal.the-variants.{NotQubits, QubitCount, Malformed, NoSuchQubit, QubitTwice, TooManyOperations, NoCoin, NoRoom, NoRecord, BadByte, NotPaired, Anticommuting, RowLengths}
+use Rattle.answers.specs.declared.Refusal.the-variants.{NotQubits, QubitCount, Malformed, NoSuchQubit, QubitTwice, TooManyOperations, NoCoin, NoRoom, NoRecord, BadByte, NotPaired, Anticommuting, RowLengths, TooUnlikely, ReadoutLength}
 use Rattle.answers.specs.declared.Written.{Written}
 use Rattle.answers.specs.declared.Written.the-variants.{Bytes, Refused}
 use Rattle.answers.specs.Verdict.{Verdict, accepted, refused, then, within, after, counted}
@@ -24,6 +24,8 @@ numberOf (BadByte at) = 10
 numberOf (NotPaired row) = 11
 numberOf Anticommuting = 12
 numberOf RowLengths = 13
+numberOf TooUnlikely = 14
+numberOf ReadoutLength = 15
 
 abbrev pub placeOf : Refusal → ℕ
 placeOf NotQubits = 1
@@ -39,6 +41,8 @@ placeOf (BadByte at) = at
 placeOf (NotPaired row) = row
 placeOf Anticommuting = 0
 placeOf RowLengths = 0
+placeOf TooUnlikely = 0
+placeOf ReadoutLength = 0
 
 abbrev pub told-written : Written → Verdict ℕ
 told-written (Bytes count) = accepted count

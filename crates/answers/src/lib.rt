@@ -1,4 +1,4 @@
-// The thirteen numbered refusals of document 01 with their places, and the answer of every function that writes into a lent buffer.
+// The numbered refusals of document 01, and 14 and 15 of document 02, with their places, and the answer of every function that writes into a lent buffer.
 ghost use mathlib.Core.Path.{_≡_};
 ghost use Rattle.answers.specs.Refusals.{numberOf, placeOf};
 
@@ -16,6 +16,8 @@ pub enum Refusal {
     NotPaired(usize),
     Anticommuting,
     RowLengths,
+    TooUnlikely,
+    ReadoutLength,
 }
 
 // How many bytes were written at the buffer's front, or why none were.
@@ -41,6 +43,8 @@ pub fn number(r: Refusal) -> u64
         Refusal::NotPaired(_) => 11,
         Refusal::Anticommuting => 12,
         Refusal::RowLengths => 13,
+        Refusal::TooUnlikely => 14,
+        Refusal::ReadoutLength => 15,
     }
 }
 
@@ -61,5 +65,7 @@ pub fn place(r: Refusal) -> usize
         Refusal::NotPaired(row) => row,
         Refusal::Anticommuting => 0,
         Refusal::RowLengths => 0,
+        Refusal::TooUnlikely => 0,
+        Refusal::ReadoutLength => 0,
     }
 }

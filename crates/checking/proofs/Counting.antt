@@ -11,7 +11,7 @@ use Rattle.clifford.specs.declared.Op.{Op}
 use Rattle.circuit.specs.Lines.{Found, found, malformed, op-line}
 use Rattle.circuit.specs.Text.{all-below, apart, checked, ends, operations, measures, count-measured}
 use Rattle.circuit.specs.parts.Reading.{Stands}
-use Rattle.checking.specs.parts.Promises.{line-verdict, Passes, Counts, counts}
+use Rattle.checking.specs.parts.Promises.{line-verdict, Passes, Counts, added}
 use Rattle.circuit.proofs.Positions.{front, past}
 use Rattle.circuit.proofs.Walk.{measures-one, after-line, operations-suc, operations-zero, operations-end}
 
@@ -60,62 +60,47 @@ pub then-then : {A B C : Type 0} (v : Verdict A) (f : A → Verdict B) (g : B �
 then-then (accepted a) f g = refl
 then-then (refused m p) f g = refl
 
--- the counts of these operations, with so many before them
-abbrev pub added : ℕ → ℕ → List Op → Counts
-added count measured ops = record { operations = count + length ops; measured = measured + count-measured ops }
-
 added-one : (count measured : ℕ) (op : Op) (ops : List Op) → added count measured (op ∷ ops) ≡ added (count + 1) (measured + measures op) ops
 added-one count measured op ops =
     let p : count + suc (length ops) ≡ count + 1 + length ops = omega arith in
     let q : measured + (measures op + count-measured ops) ≡ measured + measures op + count-measured ops = omega arith in
     λ i. record { operations = p i; measured = q i }
 
-added-none : (ops : List Op) → added 0 0 ops ≡ counts ops
-added-none ops =
-    let p : 0 + length ops ≡ length ops = omega arith in
-    let q : 0 + count-measured ops ≡ count-measured ops = omega arith in
-    λ i. record { operations = p i; measured = q i }
-
 -- where a pass stands: the whole count is what was counted, and the count of what is left
-pub record Counting (n : ℕ) (s : List ℕ) (body at count measured : ℕ) : Type 0 where
-  pub same :
-      then (operations n (most-operations - count) (count + 2) (drop at s)) (λ ops. accepted (added count measured ops))
-      ≡ then (operations n most-operations 2 (drop body s)) (λ ops. accepted (counts ops))
+pub record Counting (n : ℕ) (s : List ℕ) (whole : Verdict Counts) (at count measured : ℕ) : Type 0 where
+  pub same : then (operations n (most-operations - count) (count + 2) (drop at s)) (λ ops. accepted (added count measured ops)) ≡ whole
   pub enough : count ≤ most-operations
   pub few : measured ≤ count
-
-pub starts : (n : ℕ) (s : List ℕ) (body : ℕ) → Counting n s body body 0 0
-starts n s body = record { same = ap (then (operations n most-operations 2 (drop body s))) (λ i ops. accepted (added-none ops i)); enough = omega arith; few = omega arith }
 
 pub passes-small : {s : List ℕ} {at n line next m : ℕ} → Passes s at n line next m → m ≤ 1
 passes-small w = omega (arith, w .measured-is, measures-one (w .op))
 
-module _ (n : ℕ) (s : List ℕ) (body at count measured : ℕ) (k : Counting n s body at count measured) where
+module _ (n : ℕ) (s : List ℕ) (whole : Verdict Counts) (at count measured : ℕ) (k : Counting n s whole at count measured) where
   room : count < most-operations → most-operations - count ≡ suc (most-operations - (count + 1))
   room h = omega arith
 
   -- one line is left to be read
   reads-on :
       (r : Found Op) → at < length s → count < most-operations → op-line (drop at s) ≡ r
-      → then (after-line n (most-operations - (count + 1)) (count + 2) r) (λ ops. accepted (added count measured ops)) ≡ then (operations n most-operations 2 (drop body s)) (λ ops. accepted (counts ops))
+      → then (after-line n (most-operations - (count + 1)) (count + 2) r) (λ ops. accepted (added count measured ops)) ≡ whole
   reads-on r h f e =
       ap (λ (v : Verdict (List Op)). then v (λ ops. accepted (added count measured ops)))
       (sym (operations-suc n (most-operations - (count + 1)) (count + 2) (drop at s) r (ends-not s at h) e))
       ∙ (rw (room f) at (k .same))
 
-  pub too-many : at < length s → count ≡ most-operations → refused 6 (most-operations + 2) ≡ then (operations n most-operations 2 (drop body s)) (λ ops. accepted (counts ops))
+  pub too-many : at < length s → count ≡ most-operations → refused 6 (most-operations + 2) ≡ whole
   too-many h e =
       sym (ap (λ (v : Verdict (List Op)). then v (λ ops. accepted (added most-operations measured ops))) (operations-zero n (most-operations + 2) (drop at s) (ends-not s at h)))
       ∙ (rw e at (k .same))
 
   pub refused-line :
       (a p : ℕ) → at < length s → (count ≡ most-operations → ⊥) → line-verdict n (count + 2) (op-line (drop at s)) ≡ refused a p
-      → refused a p ≡ then (operations n most-operations 2 (drop body s)) (λ ops. accepted (counts ops))
+      → refused a p ≡ whole
   refused-line a p h f e =
       sym (ap (λ (v : Verdict (List Op)). then v (λ ops. accepted (added count measured ops))) (refused-after n (most-operations - (count + 1)) (count + 2) a p (op-line (drop at s)) e))
       ∙ reads-on (op-line (drop at s)) h (omega (arith, k .enough)) refl
 
-  pub passed-line : (next m : ℕ) → at < length s → (count ≡ most-operations → ⊥) → Passes s at n (count + 2) next m → Counting n s body next (count + 1) (measured + m)
+  pub passed-line : (next m : ℕ) → at < length s → (count ≡ most-operations → ⊥) → Passes s at n (count + 2) next m → Counting n s whole next (count + 1) (measured + m)
   passed-line next m h f w =
       let op = w .op in
       let left = most-operations - (count + 1) in
@@ -135,7 +120,7 @@ module _ (n : ℕ) (s : List ℕ) (body at count measured : ℕ) (k : Counting n
         few = omega (arith, k .few, measures-one op, w .measured-is);
       }
 
-  pub counted : length s ≤ at → accepted (record { operations = count; measured = measured }) ≡ then (operations n most-operations 2 (drop body s)) (λ ops. accepted (counts ops))
+  pub counted : length s ≤ at → accepted (record { operations = count; measured = measured }) ≡ whole
   counted h =
       let p : count ≡ count + 0 = omega arith in
       let q : measured ≡ measured + 0 = omega arith in

@@ -9,14 +9,15 @@ use lib.Dec.{leb}
 use lib.ListN.{length, drop}
 use Rattle.limits.specs.Limits.{most-qubits, most-operations}
 use Rattle.answers.specs.Verdict.{Verdict, accepted, refused, then, unless}
+use Rattle.answers.proofs.Accepting.{unless-passed}
 use Rattle.clifford.specs.declared.Op.{Op}
 use Rattle.clifford.specs.Run.{All-valid}
 use Rattle.circuit.specs.Lines.{Found, found, malformed}
 use Rattle.circuit.specs.Text.{Circuit, operations, header, meaning}
 use Rattle.circuit.specs.parts.Reading.{Stands}
-use Rattle.checking.specs.parts.Promises.{Counts, counts, Accepts}
+use Rattle.checking.specs.parts.Promises.{Counts, added, Accepts}
 use Rattle.checking.specs.Check.{check-of}
-use Rattle.circuit.proofs.Walk.{then-accepted, unless-true, unless-passed, and-left, and-right, within-room, all-valid}
+use Rattle.circuit.proofs.Walk.{then-accepted, and-left, and-right, within-room, all-valid}
 
 -- a text with its line 1 read
 abbrev told : ℕ → List Op → Verdict Circuit
@@ -51,7 +52,7 @@ module _ (s : List ℕ) (n body : ℕ) (h : Stands header s 0 n body) where
   meaning-lines : 1 ≤ n → n ≤ most-qubits → meaning s ≡ then (operations n most-operations 2 (drop body s)) (told n)
   meaning-lines l m = meaning-read s (drop body s) n (h .reads) l m
 
-  refused-lines : (v : Verdict (List Op)) (a p : ℕ) → refused a p ≡ then v (λ ops. accepted (counts ops)) → then v (told n) ≡ refused a p
+  refused-lines : (v : Verdict (List Op)) (a p : ℕ) → refused a p ≡ then v (λ ops. accepted (added 0 0 ops)) → then v (told n) ≡ refused a p
   refused-lines (accepted ops) a p e = cc
   refused-lines (refused b q) a p e =
       let x : b ≡ a = cc in
@@ -59,23 +60,23 @@ module _ (s : List ℕ) (n body : ℕ) (h : Stands header s 0 n body) where
       λ i. refused (x i) (y i)
 
   pub lines-refused :
-      (a p : ℕ) → 1 ≤ n → n ≤ most-qubits → refused a p ≡ then (operations n most-operations 2 (drop body s)) (λ ops. accepted (counts ops)) → meaning s ≡ refused a p
+      (a p : ℕ) → 1 ≤ n → n ≤ most-qubits → refused a p ≡ then (operations n most-operations 2 (drop body s)) (λ ops. accepted (added 0 0 ops)) → meaning s ≡ refused a p
   lines-refused a p l m e = meaning-lines l m ∙ refused-lines (operations n most-operations 2 (drop body s)) a p e
 
   pub lines-counted :
       (count measured : ℕ) → 1 ≤ n → n ≤ most-qubits
-      → accepted (record { operations = count; measured = measured }) ≡ then (operations n most-operations 2 (drop body s)) (λ ops. accepted (counts ops))
+      → accepted (record { operations = count; measured = measured }) ≡ then (operations n most-operations 2 (drop body s)) (λ ops. accepted (added 0 0 ops))
       → Accepts s n count measured body
   lines-counted count measured l m e =
-      let w = then-accepted (operations n most-operations 2 (drop body s)) (λ ops. accepted (counts ops)) (record { operations = count; measured = measured }) (sym e) in
-      let q : _≡_ {A = Verdict Counts} (accepted (counts (w .value))) (accepted (record { operations = count; measured = measured })) = w .later in
-      let r : counts (w .value) ≡ record { operations = count; measured = measured } = cc in
+      let w = then-accepted (operations n most-operations 2 (drop body s)) (λ ops. accepted (added 0 0 ops)) (record { operations = count; measured = measured }) (sym e) in
+      let q : _≡_ {A = Verdict Counts} (accepted (added 0 0 (w .value))) (accepted (record { operations = count; measured = measured })) = w .later in
+      let r : added 0 0 (w .value) ≡ record { operations = count; measured = measured } = cc in
       record {
         circuit = record { qubits = n; ops = w .value };
         meant = meaning-lines l m ∙ ap (λ (v : Verdict (List Op)). then v (told n)) (w .first);
         qubits-is = refl;
-        operations-is = sym (ap (λ (x : Counts). x .operations) r);
-        measured-is = sym (ap (λ (x : Counts). x .measured) r);
+        operations-is = omega (arith, ap (λ (x : Counts). x .operations) r);
+        measured-is = omega (arith, ap (λ (x : Counts). x .measured) r);
         header-is = h .reads;
         within = h .within;
         lines = w .first;
@@ -96,8 +97,8 @@ unfolding meant
 read-parts s c (found n rest) e a =
     let v : Verdict Circuit = then (operations n most-operations 2 rest) (told n) in
     let q : unless (leb 1 n && leb n most-qubits) 2 1 v ≡ accepted c = sym (ap meant e) ∙ a in
-    let b = unless-true (leb 1 n && leb n most-qubits) 2 1 v c q in
-    let w = then-accepted (operations n most-operations 2 rest) (told n) c (unless-passed (leb 1 n && leb n most-qubits) 2 1 v c q) in
+    let b = unless-passed (leb 1 n && leb n most-qubits) 2 1 v c q in
+    let w = then-accepted (operations n most-operations 2 rest) (told n) c (b .1) in
     let k : _≡_ {A = Circuit} (record { qubits = n; ops = w .value }) c = (let z = w .later in cc) in
     let m : n ≡ c .qubits = ap (λ (d : Circuit). d .qubits) k in
     let o : w .value ≡ c .ops = ap (λ (d : Circuit). d .ops) k in
@@ -105,8 +106,8 @@ read-parts s c (found n rest) e a =
     record {
       rest = rest;
       header-is = e ∙ ap (λ (j : ℕ). found j rest) m;
-      some-qubits = omega (arith, m, leb-true 1 n (and-left (leb 1 n) (leb n most-qubits) b));
-      few-qubits = omega (arith, m, leb-true n most-qubits (and-right (leb 1 n) (leb n most-qubits) b));
+      some-qubits = omega (arith, m, leb-true 1 n (and-left (leb 1 n) (leb n most-qubits) (b .0)));
+      few-qubits = omega (arith, m, leb-true n most-qubits (and-right (leb 1 n) (leb n most-qubits) (b .0)));
       lines = lines;
       few-operations = within-room (c .qubits) most-operations 2 rest (c .ops) lines;
       valid = all-valid (c .qubits) most-operations 2 rest (c .ops) lines;

@@ -1,11 +1,11 @@
 // Reads a whole circuit text: line 1, one pass over the operation lines, and the check.
 ghost use mathlib.Core.Path.{_≡_};
-ghost use Prim.Native.Nat.{_≤_};
+ghost use Prim.Native.Nat.{_+_, _-_, _≤_};
 ghost use lib.ListN.{length, drop};
 ghost use Rattle.limits.specs.Limits.{most-qubits, most-operations};
 ghost use Rattle.answers.specs.Verdict.{accepted, then};
 ghost use Rattle.circuit.specs.Text.{operations};
-ghost use Rattle.checking.specs.parts.Promises.{counts, TurnAt, told-lines, Heads, Scans};
+ghost use Rattle.checking.specs.parts.Promises.{added, TurnAt, told-lines, Heads, Scans};
 ghost use Rattle.checking.specs.Check.{told-check, check-of};
 use answers::Refusal;
 use circuit::Line;
@@ -18,7 +18,7 @@ enum Turn {
 }
 
 // How many operations, and how many of them measurements.
-enum Counted {
+pub enum Counted {
     Lines(usize, usize),
     Refused(Refusal),
 }
@@ -72,13 +72,14 @@ fn turn_at(s: &[u8], at: usize, n: usize, line: usize) -> Turn
     judged_at(s, at, n, line)
 }
 
-fn scan_lines(s: &[u8], body: usize, n: usize) -> Counted
-    requires { ⌜ n ≤ most-qubits ⌝ }
-    ensures { λ r. ⌜ told-lines r ≡ then (operations n most-operations 2 (drop body (now (s .entry)))) (λ ops. accepted (counts ops)) ⌝ }
+// The lines from a position on, behind so many operations and measurements: how many there are with these, or why a line is refused.
+pub fn scan_lines(s: &[u8], from: usize, n: usize, done: usize, seen: usize) -> Counted
+    requires { ⌜ (n ≤ most-qubits) × (done ≤ most-operations) × (seen ≤ done) ⌝ }
+    ensures { λ r. ⌜ told-lines r ≡ then (operations n (most-operations - done) (done + 2) (drop from (now (s .entry)))) (λ ops. accepted (added done seen ops)) ⌝ }
 {
-    let mut at = body;
-    let mut count: usize = 0;
-    let mut measured: usize = 0;
+    let mut at = from;
+    let mut count = done;
+    let mut measured = seen;
     while at < s.len() {
         if count == limits::MOST_OPERATIONS {
             return Counted::Refused(Refusal::TooManyOperations);
@@ -124,7 +125,7 @@ pub fn scan(text: &[u8]) -> Scanned
     ensures { λ r. ⌜ Scans (now (text .entry)) r ⌝ }
 {
     match head(text) {
-        Heading::Qubits(n, body) => match scan_lines(text, body, n) {
+        Heading::Qubits(n, body) => match scan_lines(text, body, n, 0, 0) {
             Counted::Lines(count, measured) => Scanned::Circuit {
                 qubits: n,
                 operations: count,

@@ -9,6 +9,7 @@ use borrow.Author.Tests.{ltb-true, eqb-false, not-true}
 use lib.Dec.{eqb, ltb}
 use lib.ListN.{length, drop}
 use Rattle.answers.specs.Verdict.{Verdict, accepted, refused, then, unless}
+use Rattle.answers.proofs.Accepting.{unless-passed}
 use Rattle.clifford.specs.declared.Gate.the-variants.{One as one, Two as two}
 use Rattle.clifford.specs.declared.Op.{Op}
 use Rattle.clifford.specs.declared.Op.the-variants.{Gate as apply, Measure as measure}
@@ -28,14 +29,6 @@ pub then-accepted : {A B : Type 0} (v : Verdict A) (f : A → Verdict B) (b : B)
 then-accepted (accepted a) f b e = record { value = a; first = refl; later = e }
 then-accepted {A} {B} (refused m p) f b e = absurd (let z : _≡_ {A = ℕ} 0 1 = cc in omega arith)
 
-pub unless-true : {A : Type 0} (b : Bool) (m p : ℕ) (v : Verdict A) (a : A) → unless b m p v ≡ accepted a → b ≡ true
-unless-true true m p v a e = refl
-unless-true false m p v a e = cc
-
-pub unless-passed : {A : Type 0} (b : Bool) (m p : ℕ) (v : Verdict A) (a : A) → unless b m p v ≡ accepted a → v ≡ accepted a
-unless-passed true m p v a e = e
-unless-passed false m p v a e = cc
-
 pub and-left : (a b : Bool) → a && b ≡ true → a ≡ true
 and-left true b e = refl
 and-left false b e = e
@@ -53,8 +46,8 @@ valid-op n (measure f a) b d = ltb-true a n b
 
 check-valid : (n line : ℕ) (op found-op : Op) → checked n line op ≡ accepted found-op → Valid n op
 check-valid n line op o e =
-    let rest : unless (apart op) 5 line (accepted op) ≡ accepted o = unless-passed (all-below n op) 4 line (unless (apart op) 5 line (accepted op)) o e in
-    valid-op n op (unless-true (all-below n op) 4 line (unless (apart op) 5 line (accepted op)) o e) (unless-true (apart op) 5 line (accepted op) o rest)
+    let below = unless-passed (all-below n op) 4 line (unless (apart op) 5 line (accepted op)) o e in
+    valid-op n op (below .0) (unless-passed (apart op) 5 line (accepted op) o (below .1) .0)
 
 pub measures-one : (op : Op) → measures op ≤ 1
 measures-one (apply g) = omega arith

@@ -5,7 +5,9 @@ use mathlib.Core.Bool.{Bool, true, false, _&&_, cond}
 use mathlib.Core.List.{List, [], _∷_, _++_}
 use mathlib.Core.Option.{Option, none, some}
 use Prim.Native.Nat.{ℕ, zero, suc}
+use native.Mathlib.Omega.{arith}
 use lib.Dec.{eqb}
+use lib.ListN.{length}
 use Rattle.answers.specs.Verdict.{Verdict, accepted, refused, then}
 use Rattle.pauli.specs.Letters.{_⊕_, x, z, Power, i0, _⊞_, sign}
 use Rattle.pauli.specs.Rows.{Row, Phased, mul, total, product, phased, minus-sign, times-row}
@@ -17,10 +19,10 @@ use Rattle.clifford.specs.declared.After.the-variants.{Keep, Reset}
 use Rattle.clifford.specs.declared.Op.{Op}
 use Rattle.clifford.specs.declared.Op.the-variants.{Gate as apply, Measure as measure}
 use Rattle.clifford.specs.Gates.{turns, new, gate}
-use Rattle.clifford.specs.Tableau.{Rows}
+use Rattle.clifford.specs.Tableau.{Rows, start}
 use Rattle.answers.specs.First.{lowest}
 use Rattle.clifford.specs.Measurement.{random-row, cleared, collapsed, gathered, fixed-value, Outcome, Answer}
-use Rattle.clifford.specs.Run.{State, coin, afterwards, concluded, settle, step, run}
+use Rattle.clifford.specs.Run.{State, coin, begin, afterwards, concluded, settle, step, run}
 use Rattle.clifford.proofs.Afterwards.{turned, afterwards-turns}
 
 -- four rows of the same letters, the last of whose signs is the sum of the others'
@@ -218,3 +220,32 @@ followed n line ops ih (all-accepted k) = ih _ _ _ _ k
 pub alike-run : (n line : ℕ) (ops : List Op) {a b c d : State} → State-alike a b c d → Alike (run n line ops a) (run n line ops b) (run n line ops c) (run n line ops d)
 alike-run n line [] m = all-accepted m
 alike-run n line (op ∷ ops) m = followed n line ops (λ a b c d k. alike-run n (suc line) ops k) (alike-step n line op m)
+
+-- four lists that are alike have one length
+pub one-length : {A : Type 0} {R : A → A → A → A → Type 0} {a b c d : List A} → All-alike R a b c d → (length b ≡ length a) × (length c ≡ length a) × (length d ≡ length a)
+one-length done = (refl, refl, refl)
+one-length (more r s) = let w = one-length s in (ap suc (w .0), ap suc (w .1), ap suc (w .2))
+
+-- two coin lists of one length, each twice
+pub two-alike : (a b : List ℕ) → length b ≡ length a → All-alike Coin-alike a b a b
+two-alike [] [] p = done
+two-alike [] (y ∷ b) p = absurd (omega arith)
+two-alike (x ∷ a) [] p = absurd (omega arith)
+two-alike (x ∷ a) (y ∷ b) p = more (record { is = law (coin x) (coin y) }) (two-alike a b (omega arith))
+  where
+    law : (s t : Bool) → t ≡ s ⊕ t ⊕ s
+    law = tested (bit ∷ bit ∷ []) bit _ _ tt
+
+-- runs with coins that are alike begin alike
+pub begin-alike : (n : ℕ) {a b c d : List ℕ} → All-alike Coin-alike a b c d → State-alike (begin n a) (begin n b) (begin n c) (begin n d)
+begin-alike n u = record {
+  outcomes = done;
+  rows = record { destabilizers = λ i. same (start n .destabilizer i); stabilizers = λ i. same (start n .stabilizer i) };
+  coins = u;
+}
+  where
+    thrice : (b : Bool) → b ≡ b ⊕ b ⊕ b
+    thrice = tested (bit ∷ []) bit _ _ tt
+
+    same : (r : Row) → Row-alike r r r r
+    same r = record { second = refl; third = refl; fourth = refl; signs = thrice (r .minus) }

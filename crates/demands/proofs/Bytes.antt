@@ -13,15 +13,11 @@ use Rattle.pauli.specs.Rows.{Row}
 use Rattle.pauli.specs.Texts.{sign-byte, letter-byte, listed, row-text}
 use Rattle.clifford.specs.Tableau.{Rows}
 use Rattle.clifford.specs.Measurement.{Outcome}
-use Rattle.clifford.proofs.Alike.{Row-alike, Rows-alike, Outcome-alike, All-alike, done, more}
+use Rattle.clifford.proofs.Alike.{Row-alike, Rows-alike, Outcome-alike, All-alike, done, more, one-length}
 use Rattle.records.specs.Record.{mark, trailer, record-of}
 use Rattle.records.specs.Reading.{numbered}
 use Rattle.records.proofs.Bytes.{mark-byte, row-byte, trailer-byte}
 use Rattle.demands.specs.Alike.{sign-place}
-
-pub one-length : {A : Type 0} {R : A → A → A → A → Type 0} {a b c d : List A} → All-alike R a b c d → (length b ≡ length a) × (length c ≡ length a) × (length d ≡ length a)
-one-length done = (refl, refl, refl)
-one-length (more r s) = let w = one-length s in (ap suc (w .0), ap suc (w .1), ap suc (w .2))
 
 -- four bytes that are characters of outcomes that are alike
 pub record Outcomes-at (a b c d : ℕ) : Type 0 where

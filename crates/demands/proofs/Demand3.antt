@@ -22,8 +22,9 @@ use Rattle.run.proofs.Numbered.{run-numbered}
 use Rattle.run.specs.Run.{Sheet, run-of, numbers, rest-of, buffer-after}
 use Rattle.demands.specs.Calls.{Call, number-told, size-told, measured-told, written}
 use Rattle.demands.specs.Alike.{sign-place, Same-kind, Records-alike, Leaves, nothing, two-records, xor3, is-minus, byte-of-three, Fourth}
-use Rattle.demands.proofs.Bytes.{one-length, Outcomes-at, Signs-at, Place-alike, place-alike}
-use Rattle.demands.proofs.Runs.{Sheets-alike, Runs-alike, refused-alike, accepted-alike, runs-alike, two-alike, three-alike}
+use Rattle.demands.proofs.Bytes.{Outcomes-at, Signs-at, Place-alike, place-alike}
+use Rattle.clifford.proofs.Alike.{one-length, two-alike}
+use Rattle.demands.proofs.Runs.{Sheets-alike, Runs-alike, refused-alike, accepted-alike, runs-alike, three-alike}
 use Rattle.demands.proofs.Tally.{Accepted-call, accepted-call, written-is}
 
 -- ---- place by place

@@ -9,19 +9,15 @@ use lib.Dec.{leb}
 use lib.ListN.{length}
 use Rattle.answers.specs.Verdict.{Verdict, accepted, refused, then, unless}
 use Rattle.pauli.specs.Letters.{_⊕_}
-use Rattle.pauli.specs.Rows.{Row}
-use Rattle.pauli.proofs.Cases.{tested, bit as flag}
-use Rattle.clifford.specs.Tableau.{start}
 use Rattle.clifford.specs.Measurement.{Outcome}
 use Rattle.clifford.specs.Run.{State, coin}
-use Rattle.clifford.proofs.Alike.{Row-alike, Rows-alike, Outcome-alike, All-alike, done, more, Coin-alike, State-alike, Alike, all-refused, all-accepted, alike-run}
+use Rattle.clifford.proofs.Alike.{Outcome-alike, All-alike, done, more, Coin-alike, State-alike, Alike, all-refused, all-accepted, alike-run, one-length, begin-alike}
 use Rattle.words.proofs.BitLaws.{bit-low, bit-xor}
 use Rattle.circuit.specs.Text.{Circuit, meaning, count-measured}
 use Rattle.records.specs.Record.{record-length}
 use Rattle.tally.specs.Tally.{one-if, randoms, tally-of}
 use Rattle.run.specs.Run.{Sheet, sheet, run-circuit, run-of}
 use Rattle.demands.specs.Alike.{xor3}
-use Rattle.demands.proofs.Bytes.{one-length}
 
 -- four sheets of one circuit, from ends that are alike
 pub record Sheets-alike (text : List ℕ) (a b c d : Sheet) : Type 0 where
@@ -81,15 +77,6 @@ module _ (text : List ℕ) (circuit : Circuit) (meant : meaning text ≡ accepte
   finished all-refused = refused-alike
   finished (all-accepted s) = accepted-alike (sheets s)
 
-start-alike : (n : ℕ) → Rows-alike (start n) (start n) (start n) (start n)
-start-alike n = record { destabilizers = λ i. same (start n .destabilizer i); stabilizers = λ i. same (start n .stabilizer i) }
-  where
-    thrice : (b : Bool) → b ≡ b ⊕ b ⊕ b
-    thrice = tested (flag ∷ []) flag _ _ tt
-
-    same : (r : Row) → Row-alike r r r r
-    same r = record { second = refl; third = refl; fourth = refl; signs = thrice (r .minus) }
-
 -- four coin lists that are alike give four runs that are alike
 pub runs-alike : (text : List ℕ) (room : ℕ) {a b c d : List ℕ} → All-alike Coin-alike a b c d → Runs-alike text (run-of text a room) (run-of text b room) (run-of text c room) (run-of text d room)
 unfolding run-of run-circuit
@@ -97,7 +84,7 @@ runs-alike text room {a} {b} {c} {d} u = go (meaning text) refl
   where
     check : (circuit : Circuit) → meaning text ≡ accepted circuit → (t : Bool)
         → Runs-alike text (unless t 8 0 (run-circuit circuit a)) (unless t 8 0 (run-circuit circuit b)) (unless t 8 0 (run-circuit circuit c)) (unless t 8 0 (run-circuit circuit d))
-    check circuit m true = finished text circuit m u (alike-run (circuit .qubits) 2 (circuit .ops) (record { outcomes = done; rows = start-alike (circuit .qubits); coins = u }))
+    check circuit m true = finished text circuit m u (alike-run (circuit .qubits) 2 (circuit .ops) (begin-alike (circuit .qubits) u))
     check circuit m false = refused-alike
 
     go : (v : Verdict Circuit) → meaning text ≡ v
@@ -120,13 +107,3 @@ three-alike (x ∷ a) [] c p q = absurd (omega arith)
 three-alike (x ∷ a) (y ∷ b) [] p q = absurd (omega arith)
 three-alike (x ∷ a) (y ∷ b) (z ∷ c) p q =
     more (record { is = coin-xor (bitXor x y) z ∙ ap (λ t. t ⊕ coin z) (coin-xor x y) }) (three-alike a b c (omega arith) (omega arith))
-
--- two lists of one length, each twice
-pub two-alike : (a b : List ℕ) → length b ≡ length a → All-alike Coin-alike a b a b
-two-alike [] [] p = done
-two-alike [] (y ∷ b) p = absurd (omega arith)
-two-alike (x ∷ a) [] p = absurd (omega arith)
-two-alike (x ∷ a) (y ∷ b) p = more (record { is = law (coin x) (coin y) }) (two-alike a b (omega arith))
-  where
-    law : (s t : Bool) → t ≡ s ⊕ t ⊕ s
-    law = tested (flag ∷ flag ∷ []) flag _ _ tt

@@ -1,11 +1,12 @@
 // The public face of the library: every function that a user calls, with the promise that he relies on. Nothing is required of any argument. Each promise cites
-// a definition in the words of document 01: `check-of` (crate checking), `meaning` (circuit), `run-of` (run), `read-of` (records), `copy-of` and `same-of` (archive)
-// and `product-of` (product); `Writes`, `Runs` and `Hands` say what becomes of the answer, the coins and the lent bytes.
+// a definition in the words of documents 01 and 02: `check-of` (crate checking), `meaning` (circuit), `run-of` (run), `read-of` (records), `copy-of` and `same-of`
+// (archive), `product-of` (product) and `probability-of` (probability); `Writes`, `Runs`, `Hands` and `Tells` say what becomes of the answer, the coins and the lent bytes.
 ghost use mathlib.Core.Path.{_≡_};
 ghost use Rattle.answers.specs.Refusals.{Writes};
 ghost use Rattle.archive.specs.Copy.{copy-of};
 ghost use Rattle.archive.specs.Same.{same-of, told-same};
 ghost use Rattle.checking.specs.Check.{check-of, told-check};
+ghost use Rattle.probability.specs.Probability.{probability-of, Tells};
 ghost use Rattle.product.specs.Product.{product-of};
 ghost use Rattle.reading.specs.Answer.{Hands};
 ghost use Rattle.run.specs.Run.{Runs};
@@ -13,6 +14,7 @@ use answers::Written;
 use archive::Same;
 use checking::Checked;
 use packing::Words;
+use probability::Chance;
 
 // n and the number of operations of a circuit text, or one of the refusals 1 to 6 with its line.
 pub fn check(circuit: &[u8]) -> Checked
@@ -56,4 +58,12 @@ pub fn product(first: &[u8], second: &[u8], out: &mut [u8]) -> Written
     ensures { λ r. ⌜ Writes (product-of (now (first .entry)) (now (second .entry))) (now (out .entry)) r (now (out .exit)) ⌝ }
 {
     product::product(first, second, out)
+}
+
+// How likely a readout is that states `0` or `1` for each measurement: possible, with the number k of random measurements and one half to the power k; or
+// impossible, with the line of the first fixed measurement that disagrees. No coins are taken: the stated values serve as coins.
+pub fn probability(circuit: &[u8], stated: &[u8]) -> Chance
+    ensures { λ r. ⌜ Tells (probability-of (now (circuit .entry)) (now (stated .entry))) r ⌝ }
+{
+    probability::probability(circuit, stated)
 }

@@ -3,6 +3,9 @@ pub const MOST_QUBITS: usize = 128;
 
 pub const MOST_OPERATIONS: usize = 4096;
 
+// The greatest k for which one half to the power k is told.
+pub const MOST_HALVINGS: u64 = 1022;
+
 // A sign, and a letter for each qubit.
 pub const LONGEST_ROW: usize = 1 + MOST_QUBITS;
 

@@ -5,7 +5,7 @@ ghost use Rattle.limits.specs.Limits.{most-qubits};
 ghost use Rattle.quick_lines.specs.parts.Coded.{OpAt};
 
 pub mod code;
-mod other;
+pub mod other;
 pub mod usual;
 
 // The operation of the line and the line's length as one number, if the line is well formed and the operation allowed.

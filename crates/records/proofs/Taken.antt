@@ -6,22 +6,10 @@ use mathlib.Core.Option.{Option, none, some}
 use Prim.Native.Nat.{ℕ, _+_}
 use lib.ListN.{take}
 use Rattle.answers.specs.Verdict.{Verdict, accepted, unless, unless-at}
-use Rattle.answers.proofs.Numbered.{not-accepted}
+use Rattle.answers.proofs.Accepting.{same-accepted, unless-passed, unless-at-passed}
 use Rattle.records.specs.Record.{to-rows}
 use Rattle.records.specs.Reading.{qubits-in, ends-in-record, last-record, outcome-count, first-bad, rows-in, first-wrong, reading, Read, read-of}
 use Rattle.records.proofs.Ending.{Ending, ending}
-
-module _ {A : Type 0} where
-  same-accepted : (a b : A) → accepted a ≡ accepted b → a ≡ b
-  same-accepted a b e = cc
-
-  unless-passed : (b : Bool) (number place : ℕ) (v : Verdict A) (a : A) → unless b number place v ≡ accepted a → (b ≡ true) × (v ≡ accepted a)
-  unless-passed true number place v a e = (refl, e)
-  unless-passed false number place v a e = absurd (not-accepted number place a e)
-
-  unless-at-passed : (number : ℕ) (o : Option ℕ) (v : Verdict A) (a : A) → unless-at number o v ≡ accepted a → (o ≡ none) × (v ≡ accepted a)
-  unless-at-passed number none v a e = (refl, e)
-  unless-at-passed number (some place) v a e = absurd (not-accepted number place a e)
 
 -- what reading accepts
 abbrev pub taken-as : ℕ → ℕ → List ℕ → Read

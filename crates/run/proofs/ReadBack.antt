@@ -7,6 +7,7 @@ use native.Mathlib.Omega.{arith}
 use lib.Dec.{leb}
 use lib.ListN.{length, length-map}
 use Rattle.answers.specs.Verdict.{Verdict, accepted, unless}
+use Rattle.answers.proofs.Accepting.{unless-passed}
 use Rattle.clifford.specs.declared.Op.{Op}
 use Rattle.clifford.specs.Tableau.{Paired}
 use Rattle.clifford.specs.Run.{State, run, All-valid, begin}
@@ -14,7 +15,7 @@ use Rattle.clifford.proofs.Start.{start-paired}
 use Rattle.clifford.proofs.Keeping.{Kept, run-keeps}
 use Rattle.clifford.proofs.Running.{pairing, Reached, every-prefix}
 use Rattle.circuit.specs.Text.{Circuit, meaning, count-measured}
-use Rattle.circuit.proofs.Walk.{then-accepted, unless-passed}
+use Rattle.circuit.proofs.Walk.{then-accepted}
 use Rattle.checking.proofs.Meant.{parts}
 use Rattle.records.specs.Record.{mark, record-of, record-length}
 use Rattle.records.specs.Reading.{read-of}
@@ -40,7 +41,7 @@ unfolding run-of run-circuit
 accepted-run text coins room s e =
     let m = then-accepted (meaning text) (λ c. unless (leb (record-length (c .qubits) (count-measured (c .ops))) room) 8 0 (run-circuit c coins)) s e in
     let c = m .value in
-    let u : run-circuit c coins ≡ accepted s = unless-passed (leb (record-length (c .qubits) (count-measured (c .ops))) room) 8 0 (run-circuit c coins) s (m .later) in
+    let u : run-circuit c coins ≡ accepted s = unless-passed (leb (record-length (c .qubits) (count-measured (c .ops))) room) 8 0 (run-circuit c coins) s (m .later) .1 in
     let r = then-accepted (run (c .qubits) 2 (c .ops) (begin (c .qubits) coins)) (λ f. accepted (sheet (c .qubits) coins f)) s u in
     let q : _≡_ {A = Verdict Sheet} (accepted (sheet (c .qubits) coins (r .value))) (accepted s) = r .later in
     record { circuit = c; meant = m .first; state = r .value; ran = r .first; is = (let z : sheet (c .qubits) coins (r .value) ≡ s = cc in sym z) }

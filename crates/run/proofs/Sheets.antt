@@ -2,7 +2,7 @@
 use mathlib.Core.Path.{_≡_, refl, sym, _∙_, ap, ap₂}
 use mathlib.Core.Bool.{Bool}
 use mathlib.Core.List.{List, [], _∷_, map}
-use Prim.Native.Nat.{ℕ, _≤_, _<_}
+use Prim.Native.Nat.{ℕ, _+_, _≤_, _<_}
 use native.Mathlib.Omega.{arith}
 use lib.Dec.{leb}
 use lib.ListN.{length, take, drop, length-take, length-map}
@@ -14,7 +14,7 @@ use Rattle.clifford.specs.Tableau.{Rows}
 use Rattle.clifford.specs.Run.{State, run, begin}
 use Rattle.circuit.specs.Text.{Circuit, meaning, operations, count-measured}
 use Rattle.circuit.specs.Lines.{Found, found}
-use Rattle.checking.specs.parts.Promises.{counts, Headed, Accepts}
+use Rattle.checking.specs.parts.Promises.{added, Headed, Accepts}
 use Rattle.checking.proofs.Meant.{lines-counted, parts}
 use Rattle.packing.specs.View.{rows-of}
 use Rattle.records.specs.Record.{mark, record-with, record-length}
@@ -115,9 +115,10 @@ module _ (text : List ℕ) (n count measured body : ℕ) (a : Accepts text n cou
 module _ (text : List ℕ) (body n : ℕ) (coins words marks : List ℕ) (t : Tally) (h : Headed text n body) (e : Ended text body n coins words marks t) where
   accepts : Accepts text n (length (lines-of n body text)) (t .measured) body
   accepts =
-      let k : t .measured ≡ count-measured (lines-of n body text) = ended-count text body n coins words marks t e in
+      let k : t .measured ≡ 0 + count-measured (lines-of n body text) = omega (arith, ended-count text body n coins words marks t e) in
+      let l : length (lines-of n body text) ≡ 0 + length (lines-of n body text) = omega arith in
       lines-counted text n body (h .stands) (length (lines-of n body text)) (t .measured) (h .some-qubits) (h .few-qubits)
-      (rw k (sym (ap (λ (v : Verdict (List Op)). then v (λ ops. accepted (counts ops))) (e .lines))))
+      ((λ i. accepted (record { operations = l i; measured = k i })) ∙ sym (ap (λ (v : Verdict (List Op)). then v (λ ops. accepted (added 0 0 ops))) (e .lines)))
 
   pub ended-size : (n ≤ most-qubits) × (t .measured ≤ most-operations)
   ended-size = (h .few-qubits, omega (arith, ended-within text body n coins words marks t e, e .view .room))

@@ -1,5 +1,5 @@
 -- What each exported function returns and writes into `answer`, from the definitions of the library: the number is the refusal's, 0 when accepted, and where
--- document 01 answers a number, a refusal gives zero. Assumes nothing.
+-- documents 01 and 02 answer a number, a refusal gives zero. Assumes nothing.
 use mathlib.Core.List.{List, [], _∷_}
 use mathlib.Core.Path.{_≡_}
 use Prim.Native.Nat.{ℕ, _-_}
@@ -7,6 +7,8 @@ use lib.ListN.{length, drop}
 use Rattle.answers.specs.Verdict.{Verdict, accepted, refused, then, within, after, counted}
 use Rattle.archive.specs.Same.{Compared, compared, first-refused, second-refused}
 use Rattle.checking.specs.Check.{Size}
+use Rattle.half.specs.Half.{half-bits}
+use Rattle.readouts.specs.Readouts.{Weighed, possible, impossible}
 use Rattle.records.specs.Reading.{Read}
 use Rattle.tally.specs.Tally.{one-if}
 use Rattle.run.specs.Run.{Sheet, run-of, buffer-after}
@@ -57,3 +59,9 @@ abbrev pub same-places : Compared → List ℕ
 same-places (compared b) = 0 ∷ 0 ∷ one-if b ∷ []
 same-places (first-refused number place) = 1 ∷ place ∷ 0 ∷ []
 same-places (second-refused number place) = 2 ∷ place ∷ 0 ∷ []
+
+-- place, 1 when possible, k or the line that rules it out, the 64 bits of the double
+abbrev pub chance-places : Verdict Weighed → List ℕ
+chance-places (accepted (possible k)) = 0 ∷ 1 ∷ k ∷ half-bits k ∷ []
+chance-places (accepted (impossible line)) = 0 ∷ 0 ∷ line ∷ 0 ∷ []
+chance-places (refused number place) = place ∷ 0 ∷ 0 ∷ 0 ∷ []

@@ -4,13 +4,15 @@ ghost use mathlib.Core.Path.{_≡_};
 ghost use Rattle.archive.specs.Copy.{copy-of};
 ghost use Rattle.archive.specs.Same.{same-of};
 ghost use Rattle.checking.specs.Check.{check-of};
+ghost use Rattle.probability.specs.Probability.{probability-of};
 ghost use Rattle.product.specs.Product.{product-of};
 ghost use Rattle.records.specs.Reading.{read-of};
-ghost use Rattle.senghovai.specs.Exports.{number-of, check-places, ExportsRun, read-places, ExportsWritten, same-number, same-places, write-places};
+ghost use Rattle.senghovai.specs.Exports.{number-of, chance-places, check-places, ExportsRun, read-places, ExportsWritten, same-number, same-places, write-places};
 ghost use Rattle.answers.specs.Refusals.{told-written};
 use answers::Written;
 use archive::Same;
 use checking::Checked;
+use probability::Chance;
 
 #[no_mangle]
 pub extern "C" fn senghovai_check(circuit: &[u8], answer: &mut [u64; 3]) -> u64
@@ -122,6 +124,26 @@ pub extern "C" fn senghovai_same(first: &[u8], second: &[u8], answer: &mut [u64;
         }
         Same::Second(r) => {
             *answer = [2, answers::place(r) as u64, 0];
+            answers::number(r)
+        }
+    }
+}
+
+#[no_mangle]
+pub extern "C" fn senghovai_probability(circuit: &[u8], stated: &[u8], answer: &mut [u64; 4]) -> u64
+    ensures { λ r. ⌜ (r ≡ number-of (probability-of (now (circuit .entry)) (now (stated .entry)))) × (now (answer .exit) ≡ chance-places (probability-of (now (circuit .entry)) (now (stated .entry)))) ⌝ }
+{
+    match library::probability(circuit, stated) {
+        Chance::Possible(l) => {
+            *answer = [0, 1, l.k, half::bits(l)];
+            0
+        }
+        Chance::Impossible(line) => {
+            *answer = [0, 0, line as u64, 0];
+            0
+        }
+        Chance::Refused(r) => {
+            *answer = [answers::place(r) as u64, 0, 0, 0];
             answers::number(r)
         }
     }

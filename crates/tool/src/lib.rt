@@ -87,7 +87,22 @@ pub fn fill(fd: i32, buf: &mut [u8]) -> usize
     n
 }
 
-// The same for as many bytes at a file's end as the longest record has, or all of it where there are fewer.
+// Reads the circuit of the file that the first word names, and answers its length; or, after one line that says why there is none, the buffer's.
+pub fn fill_circuit(buf: &mut [u8]) -> usize
+    ensures { λ r. ⌜ Counts r (now (buf .exit)) ⌝ }
+{
+    let fd = open_word(1);
+    if fd < 0 {
+        return buf.len();
+    }
+    let n = fill(fd, buf);
+    if n == buf.len() {
+        complain(b"the circuit is too long: give a file of at most 131072 bytes\n");
+    }
+    n
+}
+
+// As `fill` for as many bytes at a file's end as the longest record has, or all of it where there are fewer.
 pub fn fill_tail(fd: i32, buf: &mut [u8]) -> usize
     ensures { λ r. ⌜ Counts r (now (buf .exit)) ⌝ }
 {

@@ -1,6 +1,6 @@
--- A run has one outcome for each measurement. Assumes nothing.
+-- How many operations measure, and that a run has one outcome for each measurement. Assumes nothing.
 use mathlib.Core.Path.{_≡_, ap}
-use mathlib.Core.List.{List, [], _∷_}
+use mathlib.Core.List.{List, [], _∷_, _++_}
 use mathlib.Core.Option.{Option, none, some}
 use Prim.Native.Nat.{ℕ, suc, _+_, _≤_}
 use native.Mathlib.Omega.{arith}
@@ -17,6 +17,10 @@ use Rattle.circuit.proofs.Walk.{then-accepted, measures-one}
 pub measured-few : (ops : List Op) → count-measured ops ≤ length ops
 measured-few [] = omega arith
 measured-few (op ∷ ops) = omega (arith, measured-few ops, measures-one op)
+
+pub counted-both : (before later : List Op) → count-measured (before ++ later) ≡ count-measured before + count-measured later
+counted-both [] later = omega arith
+counted-both (op ∷ before) later = omega (arith, counted-both before later)
 
 pub step-count : (n line : ℕ) (op : Op) (e f : State) → step n line op e ≡ accepted f → length (f .outcomes) ≡ length (e .outcomes) + measures op
 step-count n line (apply g) e f q =

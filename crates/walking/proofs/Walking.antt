@@ -5,6 +5,7 @@ use Prim.Native.Nat.{ℕ, suc, _+_, _-_, _≤_, _<_}
 use native.Mathlib.Numerals.{add-one}
 use native.Mathlib.Omega.{arith}
 use lib.ListN.{length, drop}
+use lib.Seq.{append-snoc}
 use Rattle.limits.specs.Limits.{most-qubits, most-operations}
 use Rattle.answers.specs.Verdict.{Verdict, accepted, refused, then}
 use Rattle.clifford.specs.declared.Op.{Op}
@@ -32,13 +33,9 @@ pub record Walking (text : List ℕ) (body n : ℕ) (coins words marks : List �
   pub count : t .measured + 2 ≤ line
   pub lines : line + room ≡ most-operations + 2
 
-then-none : {A : Type 0} (v : Verdict A) → v ≡ then v (λ a. accepted a)
+pub then-none : {A : Type 0} (v : Verdict A) → v ≡ then v (λ a. accepted a)
 then-none (accepted a) = refl
 then-none (refused m p) = refl
-
-one-more : (done : List Op) (op : Op) (ops : List Op) → done ++ (op ∷ ops) ≡ (done ++ (op ∷ [])) ++ ops
-one-more [] op ops = refl
-one-more (o ∷ done) op ops = ap (_∷_ o) (one-more done op ops)
 
 module _ (text : List ℕ) (body n : ℕ) (coins : List ℕ) where
   pub walk-begin : (words marks : List ℕ) → Walkable n words marks → Walking text body n coins words marks none-yet body 2
@@ -88,9 +85,9 @@ module _ (text : List ℕ) (body n : ℕ) (coins : List ℕ) where
               ∙ ap (λ (v : Verdict (List Op)). then v (λ ops. accepted (w .done ++ ops)))
               (ap (λ (i : ℕ). operations n i line (drop at text)) k ∙ allowed-line n room line (drop at text) op (drop next text) (rw (front text at l)) (g .stands .reads) (g .below) (g .parted))
               ∙ then-then later (λ ops. accepted (op ∷ ops)) (λ ops. accepted (w .done ++ ops))
-              ∙ ap (then later) (λ i ops. accepted (one-more (w .done) op ops i));
+              ∙ ap (then later) (λ i ops. accepted (sym (append-snoc (w .done) op ops) i));
           so-far = λ ops.
-              ap (λ (o : List Op). run n 2 o (begin n coins)) (sym (one-more (w .done) op ops)) ∙ w .so-far (op ∷ ops)
+              ap (λ (o : List Op). run n 2 o (begin n coins)) (append-snoc (w .done) op ops) ∙ w .so-far (op ∷ ops)
               ∙ ap (λ (v : Verdict State). then v (run n (suc line) ops)) (e .is);
           view = e .view;
           count = omega (arith, w .count, w .view .count, e .view .count, step-count n line op (w .state) (e .state) (e .is), measures-one op);

@@ -15,7 +15,7 @@ use random_row::LowestRow;
 use tally::Tally;
 
 // What a measurement answers: its value, or that it is random and finds no coin.
-enum Shot {
+pub enum Shot {
     Fixed(bool),
     Random(bool),
     NoCoin,
@@ -32,7 +32,7 @@ fn flip(words: &mut Words, n: usize, a: usize, applies: bool)
     }
 }
 
-fn shoot(words: &mut Words, n: usize, reset: bool, a: usize, coins: &[u8], used: usize) -> Shot
+pub fn shoot(words: &mut Words, n: usize, reset: bool, a: usize, coins: &[u8], used: usize) -> Shot
     requires { ⌜ Holds n (now words) × (n ≤ most-qubits) × (a < n) × (used ≤ length (now coins)) ⌝ }
     ensures { λ r. ⌜ Holds n (now (words .exit)) × ShotAs n (following reset) a (rows-of n (now (words .entry))) (drop used (now (coins .entry))) r (rows-of n (now (words .exit))) ⌝ }
 {

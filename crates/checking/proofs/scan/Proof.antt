@@ -1,4 +1,4 @@
--- `circuit::scan` meets its contract. Assumes nothing.
+-- `checking::scan` meets its contract. Assumes nothing.
 use Rattle.checking.proofs.Meant.{lines-counted, lines-refused}
 use borrow.Author.Needs.{needs}
 use Rattle.checking.proofs.scan.Statement.{statement}
@@ -11,7 +11,7 @@ enum-known-n : tie.Need-enum-known-n
 enum-known-n c = search needs
 
 scan-lines-requires : tie.Need-scan-lines-requires
-scan-lines-requires c κs = (rw (c .before .n .given .1) at (c .before .before .before .head .ensures)) .few-qubits
+scan-lines-requires c κs = ((rw (c .before .n .given .1) at (c .before .before .before .head .ensures)) .few-qubits, search needs, search needs)
 
 enum-known-count : tie.Need-enum-known-count
 enum-known-count c = search needs

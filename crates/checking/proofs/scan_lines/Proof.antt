@@ -1,20 +1,26 @@
--- `circuit::scan_lines` meets its contract. The invariant: what was counted so far is the start of the whole count. Assumes nothing.
+-- `checking::scan_lines` meets its contract. The invariant: what was counted so far is the start of the whole count. Assumes nothing.
 use borrow.Author.Needs.{needs}
 use native.Mathlib.Omega.{arith}
-use Prim.Native.Nat.{_-_}
-use lib.ListN.{length}
-use Rattle.checking.proofs.Counting.{Counting, passes-small, starts, too-many, refused-line, passed-line, counted}
+use mathlib.Core.Path.{refl}
+use Prim.Native.Nat.{_+_, _-_}
+use lib.ListN.{length, drop}
+use Rattle.limits.specs.Limits.{most-operations}
+use Rattle.answers.specs.Verdict.{accepted, then}
+use Rattle.circuit.specs.Text.{operations}
+use Rattle.checking.specs.parts.Promises.{added}
+use Rattle.checking.proofs.Counting.{Counting, passes-small, too-many, refused-line, passed-line, counted}
 use Rattle.checking.proofs.scan_lines.Statement.{statement}
 use Rattle.checking.proofs.scan_lines.Tie as tie
 
 abbrev Inv-loop : tie.InvT-loop
-Inv-loop s body n at₀ count₀ measured₀ at count measured = Counting n s body at count measured
+Inv-loop s from n done seen at₀ count₀ measured₀ at count measured =
+    Counting n s (then (operations n (most-operations - done) (done + 2) (drop from s)) (λ ops. accepted (added done seen ops))) at count measured
 
 abbrev μ-loop : tie.MeasureT-loop
-μ-loop s body n at₀ count₀ measured₀ at count measured = length s - at
+μ-loop s from n done seen at₀ count₀ measured₀ at count measured = length s - at
 
 loop-holds : tie.Need-loop-holds Inv-loop μ-loop
-loop-holds c = starts _ _ _
+loop-holds c = let e = c .before in record { same = refl; enough = e .pre .1; few = e .pre .2 }
 
 returns : tie.Need-returns Inv-loop μ-loop
 returns c = too-many _ _ _ _ _ _ (c .before .before .loop .inv) (c .before .loop-test .taken) (c .if1 .taken)

@@ -1,7 +1,7 @@
 -- What the parts of a pass over a whole text promise one another: one line, the number of lines, line 1. Assumes nothing.
 use mathlib.Core.List.{List}
 use mathlib.Core.Path.{_≡_}
-use Prim.Native.Nat.{ℕ, _≤_}
+use Prim.Native.Nat.{ℕ, _+_, _≤_}
 use lib.ListN.{length, drop}
 use Rattle.limits.specs.Limits.{most-qubits, most-operations}
 use Rattle.answers.specs.Verdict.{Verdict, accepted, refused}
@@ -40,8 +40,9 @@ pub record Counts : Type 0 where
   pub operations : ℕ
   pub measured : ℕ
 
-abbrev pub counts : List Op → Counts
-counts ops = record { operations = length ops; measured = count-measured ops }
+-- the counts of these operations, with so many before them
+abbrev pub added : ℕ → ℕ → List Op → Counts
+added count measured ops = record { operations = count + length ops; measured = measured + count-measured ops }
 
 abbrev pub told-lines : Counted → Verdict Counts
 told-lines (counted.Lines operations measured) = accepted (record { operations = operations; measured = measured })

@@ -1,0 +1,3 @@
+pub mod Probability
+pub mod ByRuns
+pub mod parts

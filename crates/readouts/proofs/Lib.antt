@@ -1,0 +1,5 @@
+pub mod Weighing
+pub mod Given
+pub mod Accepted
+pub mod Strings
+pub mod Listed

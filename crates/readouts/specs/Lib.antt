@@ -1,0 +1,2 @@
+pub mod Readouts
+pub mod Coins
