@@ -20,10 +20,12 @@
       8  the lent buffer is shorter than the answer                       place: 0
       9  no record: fewer than 12 bytes, wrong mark, n or distances       place: 0
      10  an outcome, sign or letter byte that is not listed               place: first such byte, from the record's start (product: through the
-                                                                          first row, then the second)
+                                                                          first row, then the second; probability: in the readout)
      11  the rows are not properly paired                                 place: lower row of the first wrong pair
      12  the two rows of a product anticommute                            place: 0
      13  the two rows differ in length, or have not 2 to 129 bytes        place: 0
+     14  a readout is possible, with more than 1,022 random measurements  place: 0
+     15  a readout has not one character for each measurement             place: 0
 
    After a refusal every byte of each lent buffer is as before. After success only the answer's bytes at the front are new; all behind them are as
    before. The longest record has SENGHOVAI_LONGEST_RECORD bytes, the longest row SENGHOVAI_LONGEST_ROW: with that much room 8 is never given. */
@@ -76,6 +78,16 @@ uint64_t senghovai_product(const uint8_t *first, size_t first_len, const uint8_t
    the second. No bytes change but those of `answer`.
    answer: which was refused (0 none, 1 the first, 2 the second), place, 1 when the same */
 uint64_t senghovai_same(const uint8_t *first, size_t first_len, const uint8_t *second, size_t second_len, uint64_t answer[3]);
+
+/* Says how likely a readout of the circuit is, which states `0` or `1` for each of its measurements, in order. No coins are taken: the stated values
+   serve as coins. Accepted: possible, with the number k of random measurements and the probability, a double that is exactly one half to the power
+   k; or impossible, with the line of the first fixed measurement that disagrees. The double is given as its 64 bits, and
+       double p; memcpy(&p, &answer[3], sizeof p);
+   takes them as a double; where it is impossible they are 0, which is the double 0.
+   Refusals in order: as senghovai_check, then 15, then 10, then, where it is possible, 14. No bytes change but those of `answer`.
+   answer: place, 1 when possible and 0 when not, k when possible and the line when not, the bits of the double */
+uint64_t senghovai_probability(const uint8_t *circuit, size_t circuit_len, const uint8_t *stated, size_t stated_len,
+                               uint64_t answer[4]);
 
 #ifdef __cplusplus
 }

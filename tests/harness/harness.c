@@ -4,6 +4,7 @@
 
      check CIRCUIT     run CIRCUIT COINS LEN       read BYTES
      copy BYTES LEN    product FIRST SECOND LEN    same FIRST SECOND
+     probability CIRCUIT STATED
 
    LEN is the length of the lent buffer, whose byte i holds (7*i+3) mod 256 before the call. The
    answer is the returned number, each place of `answer` in decimal (a place not written shows as
@@ -99,6 +100,7 @@ static u64 call_read(Lent *lent, u64 *answer) { return senghovai_read(IN(0), ans
 static u64 call_copy(Lent *lent, u64 *answer) { return senghovai_copy(IN(0), IN(1), answer); }
 static u64 call_product(Lent *lent, u64 *answer) { return senghovai_product(IN(0), IN(1), IN(2), answer); }
 static u64 call_same(Lent *lent, u64 *answer) { return senghovai_same(IN(0), IN(1), answer); }
+static u64 call_probability(Lent *lent, u64 *answer) { return senghovai_probability(IN(0), IN(1), answer); }
 
 typedef struct {
     const char *name;
@@ -113,6 +115,7 @@ static const Verb verbs[] = {
     { "copy", 1, 1, 2, call_copy },
     { "product", 2, 1, 2, call_product },
     { "same", 2, 0, 3, call_same },
+    { "probability", 2, 0, 4, call_probability },
 };
 
 static u64 split(const char *line, u64 length, Word words[4])

@@ -1,4 +1,4 @@
-/* The six functions of the static library, declared with builtin types alone, since the kit's
+/* The seven functions of the static library, declared with builtin types alone, since the kit's
    compiler comes without the headers of the C library. On x86-64 `unsigned long` has 64 bits and
    is both uint64_t and size_t. The public header of the library says what each of them answers. */
 #ifndef SENGHOVAI_DECL_H
@@ -16,5 +16,7 @@ u64 senghovai_product(const u8 *first, u64 first_len, const u8 *second, u64 seco
                       u8 *out, u64 out_len, u64 answer[2]);
 u64 senghovai_same(const u8 *first, u64 first_len, const u8 *second, u64 second_len,
                    u64 answer[3]);
+u64 senghovai_probability(const u8 *circuit, u64 circuit_len, const u8 *stated, u64 stated_len,
+                          u64 answer[4]);
 
 #endif

@@ -1,9 +1,10 @@
-//! The six public functions. Each answers a number, 0 or the refusal's, a
+//! The seven public functions. Each answers a number, 0 or the refusal's, a
 //! fixed list of places, and, where a buffer is lent, all its bytes after
 //! the call.
 
 use crate::circuit;
 use crate::measure;
+use crate::probability::{self, Likelihood};
 use crate::record;
 use crate::refusal::Refusal;
 use crate::row::{Row, LONGEST_TEXT};
@@ -132,4 +133,17 @@ pub fn same(first: &[u8], second: &[u8]) -> Answer {
 
 fn refused_of_two(refusal: Refusal, which: u64) -> Answer {
     Answer { number: refusal.number, places: vec![which, refusal.place, 0], buffer: None }
+}
+
+pub fn probability(text: &[u8], stated: &[u8]) -> Answer {
+    let circuit = circuit::parse(text);
+    match circuit.and_then(|circuit| probability::likelihood(&circuit, stated)) {
+        Err(refusal) => refused(refusal, 4),
+        Ok(Likelihood::Impossible { line }) => accepted(&[0, 0, line, 0]),
+        Ok(Likelihood::Possible { random, probability }) => {
+            let mut answer = accepted(&[0, 1, random, 0]);
+            answer.places[3] = probability.to_bits();
+            answer
+        }
+    }
 }

@@ -1,9 +1,11 @@
-//! The random cases: a mix of all six functions over the material of
-//! `make`, `seam` and `damage`. The same seed gives the same cases.
+//! The random cases: a mix of all seven functions over the material of
+//! `make`, `seam`, `damage` and `probability_cases`. The same seed gives the
+//! same cases.
 
 use crate::circuit;
 use crate::damage;
 use crate::make;
+use crate::probability_cases;
 use crate::protocol::Case;
 use crate::random::Random;
 use crate::record;
@@ -131,10 +133,28 @@ fn same(random: &mut Random) -> Case {
     Case::Same(first, second)
 }
 
+fn probability(random: &mut Random) -> Case {
+    let text = if random.chance(40) {
+        let n = make::qubits(random);
+        probability_cases::tied(random, n)
+    } else {
+        some_circuit(random, 20)
+    };
+    let stated = match circuit::parse(&text) {
+        Ok(found) => probability_cases::stated(random, &found),
+        Err(_) => {
+            let count = random.below(4);
+            probability_cases::characters(random, count)
+        }
+    };
+    Case::Probability(text, stated)
+}
+
 pub fn case(random: &mut Random) -> Case {
     match random.below(100) {
         0..=12 => Case::Check(some_circuit(random, 60)),
-        13..=57 => run(random),
+        13..=47 => run(random),
+        48..=57 => probability(random),
         58..=70 => Case::Read(some_record(random, 50)),
         71..=79 => copy(random),
         80..=91 => product(random),

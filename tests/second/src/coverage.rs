@@ -3,11 +3,13 @@
 //! of M and of MR, and each of the sizes that must come accepted; how often a
 //! qubit was measured again after an MR; how often two rows were multiplied
 //! whose powers of i sum to less than zero, where a remainder with a sign
-//! would go wrong; and how often, on more than 64 qubits, an answer hung on
-//! what `seam` names. Says what is lacking.
+//! would go wrong; how often, on more than 64 qubits, an answer hung on what
+//! `seam` names; and how often a stated readout was possible, impossible or
+//! refused. Says what is lacking.
 
 use crate::answers::Answer;
 use crate::circuit::{self, measured, Operation};
+use crate::probability_cases::{self, IMPOSSIBLE, POSSIBLE, REFUSED};
 use crate::protocol::Case;
 use crate::record;
 use crate::row::Row;
@@ -16,7 +18,8 @@ use crate::tableau::Tableau;
 use std::collections::{BTreeMap, BTreeSet};
 
 const LEAST: u64 = 20;
-const FUNCTIONS: [&str; 6] = ["check", "run", "read", "copy", "product", "same"];
+const FUNCTIONS: [&str; 7] = ["check", "run", "read", "copy", "product", "same", "probability"];
+const MOST_REFUSAL: u64 = 15;
 const RAN: [&str; 9] = ["H", "S", "X", "Y", "Z", "CX", "CZ", "M", "MR"];
 const MEASURED: [&str; 4] = ["M fixed 0", "M fixed 1", "M random 0", "M random 1"];
 const RESET: [&str; 4] = ["MR fixed 0", "MR fixed 1", "MR random 0", "MR random 1"];
@@ -60,6 +63,11 @@ impl Coverage {
         *self.refusals.entry(answer.number).or_default() += 1;
         match case {
             Case::Read(bytes) if answer.number == 11 => self.count_pair(bytes, &answer),
+            Case::Probability(text, stated) => {
+                for kind in probability_cases::kinds(text, stated, &answer) {
+                    self.add(kind, 1);
+                }
+            }
             _ if answer.number != 0 => {}
             Case::Run(text, ..) => self.count_run(text, &answer),
             Case::Product(first, second, _) => {
@@ -164,7 +172,7 @@ impl Coverage {
     }
 
     /// What has to come at least `LEAST` times.
-    fn often() -> [(&'static str, &'static [&'static str]); 6] {
+    fn often() -> [(&'static str, &'static [&'static str]); 9] {
         [
             ("reset", &RESET),
             ("again", &AGAIN),
@@ -172,6 +180,9 @@ impl Coverage {
             ("wide, random", &seam::RANDOM),
             ("wide, fixed", &seam::FIXED),
             ("wide", &BEYOND),
+            ("possible", &POSSIBLE),
+            ("impossible", &IMPOSSIBLE),
+            ("readout", &REFUSED),
         ]
     }
 
@@ -179,7 +190,7 @@ impl Coverage {
         let mut table = format!("cases         {}, accepted {}\n", self.cases, self.refused(0));
         table.push_str(&self.line("functions", &FUNCTIONS));
         table.push_str("refusals    ");
-        for number in 1..=13 {
+        for number in 1..=MOST_REFUSAL {
             table.push_str(&format!("  {number}: {}", self.refused(number)));
         }
         table.push('\n');
@@ -195,7 +206,7 @@ impl Coverage {
 
     pub fn lacking(&self) -> Vec<String> {
         let mut lacking = Vec::new();
-        for number in 1..=13 {
+        for number in 1..=MOST_REFUSAL {
             if self.refused(number) < LEAST {
                 lacking.push(format!("refusal {number}, {} times", self.refused(number)));
             }

@@ -42,7 +42,7 @@ fn join(lines: &[Vec<u8>]) -> Vec<u8> {
 }
 
 /// The first, a middle, the last, or any place of a list with `count` places.
-fn some_place(random: &mut Random, count: usize) -> usize {
+pub fn some_place(random: &mut Random, count: usize) -> usize {
     match random.below(4) {
         0 => 0,
         1 => count / 2,

@@ -13,6 +13,11 @@ mod letters;
 mod limits;
 mod make;
 mod measure;
+mod probability;
+mod probability_cases;
+mod probability_selftest;
+mod probability_state;
+mod probability_sweeps;
 mod protocol;
 mod random;
 mod record;
@@ -47,6 +52,7 @@ fn write_cases(seed: u64, count: u64) -> io::Result<bool> {
     sweeps::all(&mut write)?;
     limits::all(&mut write)?;
     seam_sweeps::all(&mut write)?;
+    probability_sweeps::all(&mut write)?;
     let mut random = random::Random::new(seed);
     for _ in 0..count {
         write(cases::case(&mut random))?;

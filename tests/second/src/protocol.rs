@@ -14,6 +14,7 @@ pub enum Case {
     Copy(Vec<u8>, usize),
     Product(Vec<u8>, Vec<u8>, usize),
     Same(Vec<u8>, Vec<u8>),
+    Probability(Vec<u8>, Vec<u8>),
 }
 
 /// What a lent buffer holds before the call.
@@ -65,6 +66,7 @@ impl Case {
             Case::Copy(..) => "copy",
             Case::Product(..) => "product",
             Case::Same(..) => "same",
+            Case::Probability(..) => "probability",
         }
     }
 
@@ -73,7 +75,9 @@ impl Case {
         match self {
             Case::Check(one) | Case::Read(one) => format!("{name} {}", hex(one)),
             Case::Copy(one, length) => format!("{name} {} {length}", hex(one)),
-            Case::Same(one, two) => format!("{name} {} {}", hex(one), hex(two)),
+            Case::Same(one, two) | Case::Probability(one, two) => {
+                format!("{name} {} {}", hex(one), hex(two))
+            }
             Case::Run(one, two, length) | Case::Product(one, two, length) => {
                 format!("{name} {} {} {length}", hex(one), hex(two))
             }
@@ -87,6 +91,7 @@ impl Case {
             ["read", one] => Case::Read(unhex(one)?),
             ["copy", one, length] => Case::Copy(unhex(one)?, length.parse().ok()?),
             ["same", one, two] => Case::Same(unhex(one)?, unhex(two)?),
+            ["probability", one, two] => Case::Probability(unhex(one)?, unhex(two)?),
             [name, one, two, length] => {
                 let (one, two) = (unhex(one)?, unhex(two)?);
                 let length = length.parse().ok()?;
@@ -109,6 +114,7 @@ impl Case {
             Case::Copy(bytes, length) => answers::copy(bytes, lent(*length)),
             Case::Product(one, two, length) => answers::product(one, two, lent(*length)),
             Case::Same(one, two) => answers::same(one, two),
+            Case::Probability(circuit, stated) => answers::probability(circuit, stated),
         }
     }
 }

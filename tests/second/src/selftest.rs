@@ -1,22 +1,23 @@
 //! The examples of document 01, some of `MR` in document 02, and some points
 //! of the order of refusals that are easy to get wrong, each written out with
-//! its answer.
+//! its answer. Those of stated readouts are in `probability_selftest`.
 
 use crate::answers;
 use crate::circuit::Operation;
+use crate::probability_selftest;
 use crate::protocol::{hex, lent, Case};
 use crate::record;
 use crate::row::Row;
 use crate::shot::shot;
 use crate::tableau::Tableau;
 
-struct Tests {
+pub struct Tests {
     passed: usize,
     failed: Vec<String>,
 }
 
 impl Tests {
-    fn equal(&mut self, what: &str, found: &str, expected: &str) {
+    pub fn equal(&mut self, what: &str, found: &str, expected: &str) {
         if found == expected {
             self.passed += 1;
         } else {
@@ -34,7 +35,7 @@ impl Tests {
         self.equal(&format!("shot of {:.60?}", input), &shot(input.as_bytes()), expected);
     }
 
-    fn case(&mut self, case: Case, expected: &str) {
+    pub fn case(&mut self, case: Case, expected: &str) {
         let found = case.answer().line();
         self.equal(&format!("{:.80}", case.line()), &found, expected);
     }
@@ -219,6 +220,7 @@ pub fn run() -> Result<String, String> {
     resets(&mut tests);
     records(&mut tests);
     limits(&mut tests);
+    probability_selftest::all(&mut tests);
     if tests.failed.is_empty() {
         return Ok(format!("examples of documents 01 and 02: {} as written", tests.passed));
     }

@@ -152,15 +152,27 @@ impl State {
         2i64.pow(self.roots)
     }
 
-    /// Keep the half of the state with qubit a at the value, and bring it
-    /// back to length one.
-    pub fn project(&mut self, a: usize, value: bool) {
+    /// Keep the part of the state with qubit a at the value, as long or as
+    /// short as it is.
+    pub fn keep(&mut self, a: usize, value: bool) {
         for index in 0..self.amplitudes.len() {
             if (digit(index, a) == 1) != value {
                 self.amplitudes[index] = O;
             }
         }
+    }
+
+    /// Keep the half of the state with qubit a at the value, and bring it
+    /// back to length one.
+    pub fn project(&mut self, a: usize, value: bool) {
+        self.keep(a, value);
         self.roots -= 1;
+    }
+
+    /// The squared length of the state: a whole number, and how often it is
+    /// to be halved.
+    pub fn squared_length(&self) -> (i64, u32) {
+        (self.amplitudes.iter().map(|amplitude| amplitude.square()).sum(), self.roots)
     }
 
     /// Whether the row with its sign leaves the state as it is.

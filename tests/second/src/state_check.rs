@@ -2,12 +2,14 @@
 //! After every operation the rows are properly paired and every stabilizer
 //! row with its sign leaves the state as it is; every measurement is random
 //! or fixed on both, with the same value; every MR leaves its qubit at 0; and
-//! the record of the whole run says the same.
+//! the record of the whole run says the same. Then some readouts of the same
+//! circuit are stated, and asked of both how likely they are.
 
 use crate::answers;
 use crate::circuit::{measured, Operation};
 use crate::make;
 use crate::measure::is_one;
+use crate::probability_state;
 use crate::protocol::lent;
 use crate::random::Random;
 use crate::record;
@@ -24,6 +26,7 @@ struct Counts {
     fixed: usize,
     resets: usize,
     below_zero: usize,
+    stated: probability_state::Counts,
 }
 
 struct Pair {
@@ -151,7 +154,8 @@ fn one_circuit(random: &mut Random, counts: &mut Counts) -> Result<(), String> {
     if answer.number != 0 || answer.buffer != Some(expected) {
         return Err(format!("the run's record says otherwise, in: {shown}"));
     }
-    Ok(())
+    probability_state::check(random, n, &operations, &pair.outcomes, &mut counts.stated)
+        .map_err(|what| format!("{what}, in: {shown}"))
 }
 
 pub fn check(seed: u64, count: u64) -> Result<String, String> {
@@ -160,12 +164,14 @@ pub fn check(seed: u64, count: u64) -> Result<String, String> {
     for _ in 0..count {
         one_circuit(&mut random, &mut counts)?;
     }
-    let Counts { operations, rows, random: coins, fixed, resets, below_zero } = counts;
+    let Counts { operations, rows, random: coins, fixed, resets, below_zero, stated } = counts;
     Ok([
         format!("state vector: {count} circuits on up to {MOST_QUBITS} qubits"),
         format!("{operations} operations, {rows} stabilizer rows"),
         format!("{coins} random and {fixed} fixed measurements, {resets} of them MR"),
-        format!("{below_zero} power sums below zero, no difference"),
+        format!("{below_zero} power sums below zero"),
+        format!("{} readouts possible and {} impossible", stated.possible, stated.impossible),
+        "no difference".to_string(),
     ]
     .join(", "))
 }

@@ -34,7 +34,7 @@ pub fn all(write: Write) -> io::Result<()> {
 }
 
 /// The text with each of the 256 values at each of its places.
-fn every_byte(text: &[u8]) -> Vec<Vec<u8>> {
+pub fn every_byte(text: &[u8]) -> Vec<Vec<u8>> {
     let mut made = Vec::new();
     for place in 0..text.len() {
         for value in 0..=255 {
