@@ -7,6 +7,7 @@
    answers differ. */
 #include "agree.h"
 #include "clock.h"
+#include "likely.h"
 #include "workloads.h"
 
 extern int atoi(const char *text);
@@ -225,6 +226,7 @@ int main(int count, char **words)
     printf(".\n\n");
     agreed &= table(limit);
     agreed &= growth(limit);
+    agreed &= likely(limit);
     printf("\nThe records and answers of all programs %s on every workload.\n", agreed ? "were equal" : "WERE NOT EQUAL");
     return !agreed;
 }

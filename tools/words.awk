@@ -25,6 +25,8 @@ function place_of(told) {
     if (told == "rows") return rows_told()
     if (told == "end") return end_told(pick("ARCHIVE"))
     if (told == "pair") return pair_told(pick("ARCHIVE"))
+    if (told == "readout") return readout_told()
+    if (told == "byte" && pick("READOUTS")) return readout_told() ", character " place + 1
     if (told == "byte") return pick("ROW") ? row_byte_told() : byte_told(pick("ARCHIVE"))
     if (told == "" || told == "none") return place ? "place " place : ""
     return line_told(told, pick("CIRCUIT"))
@@ -55,6 +57,8 @@ function file(k,   i, same) {
     for (i = 1; i <= words; i++) same += role[i] == role[k]
     return name(k) (same > 1 ? which == 2 ? ", the second file" : ", the first file" : "")
 }
+
+function readout_told() { return name(pick("READOUTS")) ", line " ENVIRON["LINE"] }
 
 # ---- lines of a text
 
