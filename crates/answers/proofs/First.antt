@@ -54,6 +54,14 @@ lowest-none f n l = go (lowest f n) (lowest-is f n)
     go none k = refl
     go (some q) k = absurd (true≢false (sym (k .passes) ∙ l q (k .below)))
 
+-- where nothing is found nothing passes
+pub none-passes : (f : ℕ → Bool) (n : ℕ) → lowest f n ≡ none → (i : ℕ) → i < n → f i ≡ false
+none-passes f n e = go (lowest f n) e (lowest-is f n)
+  where
+    go : (o : Option ℕ) → o ≡ none → Answer f n o → (i : ℕ) → i < n → f i ≡ false
+    go none q l = l
+    go (some p) q l = absurd (let z : _≡_ {A = ℕ} 0 1 = cc in omega arith)
+
 -- what is found lies below n
 pub lowest-below : (f : ℕ → Bool) (n p : ℕ) → some p ≡ lowest f n → p < n
 lowest-below f n p e = go (lowest f n) e (lowest-is f n)

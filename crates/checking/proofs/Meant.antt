@@ -9,7 +9,7 @@ use lib.Dec.{leb}
 use lib.ListN.{length, drop}
 use Rattle.limits.specs.Limits.{most-qubits, most-operations}
 use Rattle.answers.specs.Verdict.{Verdict, accepted, refused, then, unless}
-use Rattle.answers.proofs.Accepting.{unless-passed}
+use Rattle.answers.proofs.Accepting.{unless-passed, then-accepted}
 use Rattle.clifford.specs.declared.Op.{Op}
 use Rattle.clifford.specs.Run.{All-valid}
 use Rattle.circuit.specs.Lines.{Found, found, malformed}
@@ -17,7 +17,7 @@ use Rattle.circuit.specs.Text.{Circuit, operations, header, meaning}
 use Rattle.circuit.specs.parts.Reading.{Stands}
 use Rattle.checking.specs.parts.Promises.{Counts, added, Accepts}
 use Rattle.checking.specs.Check.{check-of}
-use Rattle.circuit.proofs.Walk.{then-accepted, and-left, and-right, within-room, all-valid}
+use Rattle.circuit.proofs.Walk.{and-left, and-right, within-room, all-valid}
 
 -- a text with its line 1 read
 abbrev told : ℕ → List Op → Verdict Circuit

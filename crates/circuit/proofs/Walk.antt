@@ -9,7 +9,7 @@ use borrow.Author.Tests.{ltb-true, eqb-false, not-true}
 use lib.Dec.{eqb, ltb}
 use lib.ListN.{length, drop}
 use Rattle.answers.specs.Verdict.{Verdict, accepted, refused, then, unless}
-use Rattle.answers.proofs.Accepting.{unless-passed}
+use Rattle.answers.proofs.Accepting.{unless-passed, then-accepted}
 use Rattle.clifford.specs.declared.Gate.the-variants.{One as one, Two as two}
 use Rattle.clifford.specs.declared.Op.{Op}
 use Rattle.clifford.specs.declared.Op.the-variants.{Gate as apply, Measure as measure}
@@ -18,16 +18,6 @@ use Rattle.circuit.specs.Lines.{Found, found, malformed, op-line}
 use Rattle.circuit.specs.Text.{all-below, apart, checked, ends, operations, measures}
 use Rattle.circuit.specs.parts.Reading.{Stands}
 use Rattle.circuit.proofs.Positions.{front, past}
-
--- what a later step accepts, an earlier one has accepted
-pub record Accepted {A B : Type 0} (v : Verdict A) (f : A → Verdict B) (b : B) : Type 0 where
-  pub value : A
-  pub first : v ≡ accepted value
-  pub later : f value ≡ accepted b
-
-pub then-accepted : {A B : Type 0} (v : Verdict A) (f : A → Verdict B) (b : B) → then v f ≡ accepted b → Accepted v f b
-then-accepted (accepted a) f b e = record { value = a; first = refl; later = e }
-then-accepted {A} {B} (refused m p) f b e = absurd (let z : _≡_ {A = ℕ} 0 1 = cc in omega arith)
 
 pub and-left : (a b : Bool) → a && b ≡ true → a ≡ true
 and-left true b e = refl

@@ -108,7 +108,7 @@ line-written (measure Reset a) rest h =
     one-read (measure Reset) a (line-text (measure Reset a) ++ rest) rest h (ap (λ (t : List ℕ). named names (77 ∷ 82 ∷ t)) (one-shape a rest))
 
 -- the lines
-line-starts : (op : Op) (rest : List ℕ) → ends (line-text op ++ rest) ≡ false
+pub line-starts : (op : Op) (rest : List ℕ) → ends (line-text op ++ rest) ≡ false
 line-starts (apply (one g a)) rest = refl
 line-starts (apply (two g a b)) rest = refl
 line-starts (measure Keep a) rest = refl

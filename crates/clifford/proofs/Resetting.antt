@@ -16,10 +16,11 @@ use Rattle.clifford.specs.declared.After.the-variants.{Keep, Reset}
 use Rattle.clifford.specs.declared.Op.the-variants.{Measure as measure}
 use Rattle.clifford.specs.Tableau.{Rows, Paired}
 use Rattle.clifford.specs.Measurement.{Answer, has-x, random-row, cleared, settled, collapsed, fixed-value}
+use Rattle.clifford.specs.Generators.{Fixed-at}
 use Rattle.clifford.specs.Run.{State, coin, afterwards, settle, step}
 use Rattle.clifford.proofs.Pairing.{collapsed-paired}
 use Rattle.clifford.proofs.Afterwards.{all-turned, afterwards-turns}
-use Rattle.clifford.proofs.Again.{Fixed-at, random-again, flipped-again}
+use Rattle.clifford.proofs.Again.{random-again, flipped-again}
 
 -- two tableaus have the same letters in every row
 pub record Same-letters (t u : Rows) : Type 0 where

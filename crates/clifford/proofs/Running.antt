@@ -52,6 +52,11 @@ run-joined n line (op ∷ ops) more s = go (run-joined n (suc line) ops more) (s
     go ih (accepted t) = ih t ∙ ap (λ (k : ℕ). then (run n (suc line) ops t) (run n k more)) later
     go ih (refused number place) = refl
 
+-- the first of valid operations are valid
+pub valid-front : (n : ℕ) (front later : List Op) → All-valid n (front ++ later) → All-valid n front
+valid-front n [] later v = tt
+valid-front n (op ∷ front) later v = (v .0, valid-front n front later (v .1))
+
 -- a run that is accepted was accepted after each of its operations, with properly paired rows there
 pub record Reached (n line : ℕ) (before : List Op) (s : State) : Type 0 where
   pub state : State

@@ -1,12 +1,13 @@
 -- The measurement of a qubit: document 01, "M a", random or fixed. Assumes nothing.
 use mathlib.Core.Bool.{Bool, true, false, cond}
 use mathlib.Core.Option.{Option}
-use Prim.Native.Nat.{ℕ, zero, suc}
+use Prim.Native.Nat.{ℕ}
 use lib.Dec.{eqb}
 use Rattle.answers.specs.First.{lowest}
 use Rattle.pauli.specs.Letters.{Z, x}
-use Rattle.pauli.specs.Rows.{Row, times-row, Phased, phased, product, minus-sign}
-use Rattle.clifford.specs.Tableau.{Rows, alone, blank}
+use Rattle.pauli.specs.Rows.{Row, times-row, Phased, minus-sign}
+use Rattle.choices.specs.Choices.{chosen-product}
+use Rattle.clifford.specs.Tableau.{Rows, alone}
 
 -- the row has X or Y at a
 abbrev pub has-x : ℕ → Row → Bool
@@ -33,8 +34,7 @@ collapsed n a p coin t = record {
 
 -- the product, in order and with its power of i, of those of the first k stabilizers whose partners have X or Y at a
 abbrev pub gathered : ℕ → ℕ → Rows → ℕ → Phased
-gathered n a t zero = phased blank
-gathered n a t (suc k) = cond (has-x a (t .destabilizer k)) (product n (gathered n a t k) (phased (t .stabilizer k))) (gathered n a t k)
+gathered n a t k = chosen-product n (t .stabilizer) (λ i. has-x a (t .destabilizer i)) k
 
 -- otherwise the measurement is fixed: no row changes, and the outcome is 1 when the sign of the product of all of them is minus
 abbrev pub fixed-value : ℕ → ℕ → Rows → Bool

@@ -2,7 +2,7 @@
 -- "Rows and their products". Assumes nothing.
 use mathlib.Core.Bool.{false, cond}
 use mathlib.Core.Path.{_≡_}
-use Prim.Native.Nat.{ℕ, _<_}
+use Prim.Native.Nat.{ℕ, _-_, _<_}
 use lib.Dec.{eqb, ltb}
 use Rattle.pauli.specs.Letters.{Letter, I, X, Z}
 use Rattle.pauli.specs.Rows.{Letters, Row, anticommute}
@@ -13,6 +13,10 @@ use Rattle.clifford.specs.Gates.{gate}
 pub record Rows : Type 0 where
   pub destabilizer : ℕ → Row
   pub stabilizer : ℕ → Row
+
+-- row i of the 2n rows: destabilizers 0 to n-1, stabilizers n to 2n-1; row i and row n + i are partners
+abbrev pub numbered : ℕ → Rows → ℕ → Row
+numbered n t i = cond (ltb i n) (t .destabilizer i) (t .stabilizer (i - n))
 
 -- the letter l on qubit a alone
 abbrev pub alone : Letter → ℕ → Letters

@@ -11,11 +11,10 @@ use borrow.Author.Tests.{ltb-true, ltb-false, eqb-true}
 use Rattle.pauli.specs.Letters.{_⊕_}
 use Rattle.pauli.specs.Rows.{Row}
 use Rattle.pauli.specs.Texts.{sign-byte, letter-byte, listed, row-text}
-use Rattle.clifford.specs.Tableau.{Rows}
+use Rattle.clifford.specs.Tableau.{Rows, numbered}
 use Rattle.clifford.specs.Measurement.{Outcome}
 use Rattle.clifford.proofs.Alike.{Row-alike, Rows-alike, Outcome-alike, All-alike, done, more, one-length}
 use Rattle.records.specs.Record.{mark, trailer, record-of}
-use Rattle.records.specs.Reading.{numbered}
 use Rattle.records.proofs.Bytes.{mark-byte, row-byte, trailer-byte}
 use Rattle.demands.specs.Alike.{sign-place}
 

@@ -75,7 +75,7 @@ module _ (text : List ℕ) (p : Call text) (z : number-told p ≡ 0) where
       ap outcome-part (written-is text p call ∙ ap (λ (s : Sheet). s .bytes) (ran .is))
       ∙ outcomes-written (ran .circuit .qubits) (map mark outcomes) (ran .state .rows) (held text (p .coins) (call .sheet) ran) []
 
-  told : (k : ℕ) → getD (p .answer) k 0 ≡ getD (numbers (accepted (sheet (ran .circuit .qubits) (p .coins) (ran .state)))) k 0
+  pub told : (k : ℕ) → getD (p .answer) k 0 ≡ getD (numbers (accepted (sheet (ran .circuit .qubits) (p .coins) (ran .state)))) k 0
   told k = ap (λ l. getD l k 0) (call .answer ∙ ap (λ s. numbers (accepted s)) (ran .is))
 
   -- the tally of an accepted call

@@ -1,6 +1,6 @@
 -- Powers of i that are counted by numbers: sums of bits in words, and the sign of the total. Assumes nothing.
 use mathlib.Core.Path.{_≡_, refl, sym, ap, ap₂, _∙_}
-use mathlib.Core.Bool.{Bool, true, false, _&&_}
+use mathlib.Core.Bool.{Bool, true, false, _&&_, and-true, and-false}
 use mathlib.Core.List.{[], _∷_}
 use Prim.Native.Nat.{ℕ, zero, suc, _*_, _/_, _%_, _^_, _<_, _+_}
 use native.Mathlib.Nat.{mod-lt, zero-lt-suc, pow-suc, add-suc, add-zero, mul-zero, mul-add}
@@ -125,12 +125,6 @@ top-clear w h e = go (bit 63 w) (top-bit w h)
     go : (b : Bool) → w / 2 ^ 63 ≡ count b → b ≡ false
     go true f = absurd (e f)
     go false f = refl
-
-and-true : (b : Bool) → (b && true) ≡ b
-and-true = cases.tested (cases.bit ∷ []) cases.bit _ _ tt
-
-and-false : (b : Bool) → (b && false) ≡ false
-and-false = cases.tested (cases.bit ∷ []) cases.bit _ _ tt
 
 -- the top bit of q, where p has its own; and 0 where it has not
 pub both-set : (b : Bool) (q p : ℕ) → q < 2 ^ 64 → bit 63 q ≡ b → p / 2 ^ 63 ≡ 1 → q / 2 ^ 63 ≡ count (b && bit 63 p)

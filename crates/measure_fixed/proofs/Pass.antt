@@ -1,7 +1,7 @@
 -- The pass over the columns, of m rows in any number of words: H r is set where row r had an odd number of Y so far, twos where an odd number of
 -- twos was met, and the power p has the threes of the columns. Assumes nothing.
 use mathlib.Core.Path.{_≡_, refl, sym, ap, ap₂, _∙_}
-use mathlib.Core.Bool.{Bool, false, _&&_}
+use mathlib.Core.Bool.{Bool, false, _&&_, and-false}
 use mathlib.Core.List.{[], _∷_}
 use Prim.Native.Nat.{ℕ, zero, suc, _<_, _+_}
 use native.Mathlib.Nat.{add-suc, add-zero}
@@ -31,9 +31,6 @@ carry = tested (bit ∷ bit ∷ []) pow _ _ tt
 
 gather : (a : Power) (t h q : Bool) (c u : Power) → a ⊞ (sign (t ⊕ (h ⊕ q)) ⊞ (c ⊞ u)) ≡ a ⊞ sign h ⊞ (sign t ⊞ c ⊞ (sign q ⊞ u))
 gather = tested (pow ∷ bit ∷ bit ∷ bit ∷ pow ∷ pow ∷ []) pow _ _ tt
-
-none-and : (b : Bool) → (b && false) ≡ false
-none-and = tested (bit ∷ []) bit _ _ tt
 
 module _ (X Z : ℕ → ℕ → Bool) (S : ℕ → Bool) (m : ℕ) where
   unfoldable pub Passed : (ℕ → Bool) → Bool → Power → ℕ → Type 0
@@ -85,7 +82,7 @@ module _ (X Z : ℕ → ℕ → Bool) (S : ℕ → Bool) (m : ℕ) where
   passed-over H t p j a e =
       passed-more H H t t p p j a (λ r l. sym (ap (λ (b : Bool). H r ⊕ (b && Z j r)) (e r l) ∙ xor-adds .right (H r)))
       (sym (ap₂ (λ (u v : Bool). t ⊕ (u ⊕ v))
-      (sum-cong xor-adds _ _ m (λ r l. ap (λ (b : Bool). H r && (b && Z j r)) (e r l) ∙ none-and (H r)) ∙ sum-zero xor-adds m)
-      (sum-cong xor-adds _ _ m (λ r l. ap (λ (b : Bool). odd-number (Z j) (suc r) && b) (e r l) ∙ none-and (odd-number (Z j) (suc r))) ∙ sum-zero xor-adds m)
+      (sum-cong xor-adds _ _ m (λ r l. ap (λ (b : Bool). H r && (b && Z j r)) (e r l) ∙ and-false (H r)) ∙ sum-zero xor-adds m)
+      (sum-cong xor-adds _ _ m (λ r l. ap (λ (b : Bool). odd-number (Z j) (suc r) && b) (e r l) ∙ and-false (odd-number (Z j) (suc r))) ∙ sum-zero xor-adds m)
       ∙ xor-adds .right t))
       (sym (ap (λ (b : Bool). p ⊞ three (b && odd-number (Z j) m)) (sum-cong xor-adds _ _ m (λ r l. e r l) ∙ sum-zero xor-adds m) ∙ power-adds .right p))

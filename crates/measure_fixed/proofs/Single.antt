@@ -1,21 +1,18 @@
 -- A product of no factor, or of one: its sign; and a word with one bit. Assumes nothing.
-use mathlib.Core.Path.{_≡_, refl, sym, ap, ap₂, _∙_}
-use mathlib.Core.Bool.{Bool, false, cond}
-use mathlib.Core.List.{[], _∷_}
-use Prim.Native.Nat.{ℕ, zero, suc, _+_, _-_, _/_, _^_, _≤_, _<_}
+use mathlib.Core.Path.{_≡_, refl, sym, ap, _∙_}
+use mathlib.Core.Bool.{false}
+use Prim.Native.Nat.{ℕ, _+_, _-_, _/_, _^_, _≤_, _<_}
 use native.Mathlib.Decide.{decLt}
 use native.Mathlib.Omega.{arith}
 use lib.Bits.{bitAnd, and-mask}
 use lib.Count.{trailingZeros}
 use lib.Dec.{eqb}
 use borrow.Author.Tests.{eq-eqb, ne-eqb}
-use Rattle.pauli.specs.Letters.{Power, i0, sign, _⊞_ as _⊞_}
-use Rattle.pauli.specs.Rows.{Phased, product, phased, minus-sign}
-use Rattle.pauli.proofs.Cases as cases
-use Rattle.pauli.proofs.Sums.{sum-zero}
-use Rattle.pauli.proofs.LetterLaws.{power-adds}
-use Rattle.clifford.specs.Tableau.{Rows, blank}
-use Rattle.clifford.specs.Measurement.{has-x, gathered, fixed-value}
+use Rattle.pauli.specs.Rows.{Phased, minus-sign}
+use Rattle.pauli.proofs.LetterLaws.{sign-back}
+use Rattle.choices.proofs.Products.{product-cong, product-none, product-one}
+use Rattle.clifford.specs.Tableau.{Rows}
+use Rattle.clifford.specs.Measurement.{has-x, fixed-value}
 use Rattle.words.specs.Bit.{bit}
 use Rattle.words.proofs.BitLaws.{bit-pow, trailing-below}
 use Rattle.measure_fixed.proofs.Shifts.{shr-at}
@@ -23,35 +20,13 @@ use Rattle.measure_fixed.proofs.Shifts.{shr-at}
 -- ---- rows: only that of place p is taken, if there is one
 
 module _ (n a p : ℕ) (t : Rows) (only : (k : ℕ) → k < n → has-x a (t .destabilizer k) ≡ eqb k p) where
-  left-out : (k : ℕ) → k < n → (k ≡ p → ⊥) → gathered n a t (suc k) ≡ gathered n a t k
-  left-out k l d = ap (λ (b : Bool). cond b (product n (gathered n a t k) (phased (t .stabilizer k))) (gathered n a t k)) (only k l ∙ ne-eqb k p d)
-
-  none : (k : ℕ) → k ≤ n → k ≤ p → gathered n a t k ≡ phased blank
-  none zero h l = refl
-  none (suc k) h l = left-out k (omega arith) (λ q. omega arith) ∙ none k (omega arith) (omega arith)
-
-  one : (k : ℕ) → k ≤ n → p < k → gathered n a t k ≡ product n (phased blank) (phased (t .stabilizer p))
-  one zero h l = absurd (omega arith)
-  one (suc k) h l = go (decLt p k) (one k (omega arith))
-    where
-      go : Dec (p < k) → (p < k → gathered n a t k ≡ product n (phased blank) (phased (t .stabilizer p)))
-          → gathered n a t (suc k) ≡ product n (phased blank) (phased (t .stabilizer p))
-      go (yes b) ih = left-out k (omega arith) (λ q. omega arith) ∙ ih b
-      go (no b) ih =
-          let q : k ≡ p = omega arith in
-          ap (λ (c : Bool). cond c (product n (gathered n a t k) (phased (t .stabilizer k))) (gathered n a t k)) (only k (omega arith) ∙ eq-eqb k p q)
-          ∙ ap₂ (λ (g : Phased) (r : ℕ). product n g (phased (t .stabilizer r))) (none k (omega arith) (omega arith)) q
-
   pub no-factor : n ≤ p → fixed-value n a t ≡ false
-  no-factor l = ap (λ (g : Phased). minus-sign (g .phase)) (none n (omega arith) l)
-
-  own : (b : Bool) → minus-sign (sign b ⊞ i0) ≡ b
-  own = cases.tested (cases.bit ∷ []) cases.bit _ _ tt
+  no-factor l = ap (λ (g : Phased). minus-sign (g .phase)) (product-none n (t .stabilizer) (λ i. has-x a (t .destabilizer i)) n (λ k h. only k h ∙ ne-eqb k p (λ q. omega arith)))
 
   pub one-factor : p < n → fixed-value n a t ≡ t .stabilizer p .minus
   one-factor l =
-      ap (λ (g : Phased). minus-sign (g .phase)) (one n (omega arith) l)
-      ∙ ap (λ (q : Power). minus-sign (sign (t .stabilizer p .minus) ⊞ q)) (sum-zero power-adds n) ∙ own (t .stabilizer p .minus)
+      ap (λ (g : Phased). minus-sign (g .phase)) (product-cong n (t .stabilizer) (t .stabilizer) (λ i. has-x a (t .destabilizer i)) (λ i. eqb i p) n (λ i h. refl) only ∙ product-one n (t .stabilizer) p n l)
+      ∙ sign-back (t .stabilizer p .minus)
 
 -- ---- words
 

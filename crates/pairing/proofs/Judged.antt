@@ -7,7 +7,7 @@ use Prim.Native.Nat.{ℕ, suc, _+_, _-_, _*_, _%_, _≤_, _<_}
 use native.Mathlib.Decide.{decLt}
 use native.Mathlib.Omega.{arith}
 use lib.Dec.{eqb}
-use lib.ListN.{getD, take, drop}
+use lib.ListN.{getD, drop}
 use lib.Seq.{getD-take, getD-drop}
 use borrow.Author.Tests.{lt-ltb, le-ltb, ne-eqb}
 use Rattle.limits.specs.Limits.{most-qubits}
@@ -19,11 +19,13 @@ use Rattle.pauli.specs.Texts.{letter-of}
 use Rattle.pauli.proofs.LetterLaws.{xor-adds, differ-none}
 use Rattle.pauli.proofs.RowLaws.{anticommute-self, anticommute-swap}
 use Rattle.pauli.proofs.Sums.{sum-cong, sum-zero}
-use Rattle.packing.specs.View.{row-count, bit-at, letter-at, row-at, rows-of, Holds}
+use Rattle.packing.specs.View.{row-count, bit-at, letter-at, rows-of, Holds}
 use Rattle.packing.proofs.Determined.{row-letter}
 use Rattle.packing.proofs.Views.{rows-in}
-use Rattle.records.specs.Reading.{is-some, numbered, wrong-pair}
-use Rattle.records.proofs.Pairs.{numbered-low, numbered-high, xor-same, same-xor}
+use Rattle.records.specs.Reading.{is-some, wrong-pair}
+use Rattle.clifford.specs.Tableau.{numbered}
+use Rattle.clifford.proofs.Partners.{numbered-low, numbered-high}
+use Rattle.records.proofs.Pairs.{xor-same, same-xor}
 use Rattle.read_rows.specs.parts.Loading.{column-of, in-record, First, Loaded}
 use Rattle.column_sums.specs.parts.Sums.{Against}
 use Rattle.pairing.specs.parts.Partners.{partner, Right, Rights}

@@ -69,6 +69,10 @@ odd-plus = tested (pow ∷ pow ∷ []) bit _ _ tt
 pub sign-plus : (a b : Bool) → sign (a ⊕ b) ≡ sign a ⊞ sign b
 sign-plus = tested (bit ∷ bit ∷ []) pow _ _ tt
 
+-- a sign is told by its power
+pub sign-back : (b : Bool) → minus-sign (sign b) ≡ b
+sign-back = tested (bit ∷ []) bit _ _ tt
+
 -- an even power is that of its sign
 pub even-sign : (p : Power) → odd p ≡ false → sign (minus-sign p) ≡ p
 even-sign p e = sym (power-adds .right (sign (minus-sign p))) ∙ ap (λ b. sign (minus-sign p) ⊞ one b) (sym e) ∙ law p

@@ -3,25 +3,23 @@ use mathlib.Core.Path.{_≡_, refl, sym, _∙_, ap, ap₂, subst}
 use mathlib.Core.Bool.{Bool, true, false}
 use mathlib.Core.List.{List, [], _∷_, map}
 use mathlib.Core.Option.{none}
-use Prim.Native.Nat.{ℕ}
+use Prim.Native.Nat.{ℕ, _≤_}
 use native.Mathlib.Omega.{arith}
-use borrow.Author.Tests.{le-leb, eqb-true}
+use borrow.Author.Tests.{eqb-true}
 use lib.Dec.{eqb, leb}
 use lib.ListN.{length, length-map}
 use Rattle.limits.specs.Limits.{most-halvings}
-use Rattle.answers.specs.Verdict.{Verdict, accepted, then, unless, unless-at}
-use Rattle.answers.proofs.Accepting.{same-accepted, unless-passed, unless-at-passed}
+use Rattle.answers.specs.Verdict.{Verdict, accepted, then, unless-at}
+use Rattle.answers.proofs.Accepting.{same-accepted, unless-passed, unless-at-passed, then-accepted}
 use Rattle.clifford.specs.Measurement.{Outcome}
-use Rattle.clifford.specs.Run.{State, begin, run}
 use Rattle.circuit.specs.Text.{Circuit, meaning, count-measured}
-use Rattle.circuit.proofs.Walk.{then-accepted}
 use Rattle.checking.proofs.Meant.{parts}
 use Rattle.records.specs.Record.{mark-of, mark, outcome-of, record-length, longest-record}
 use Rattle.records.proofs.Lengths.{record-within}
 use Rattle.records.proofs.Written.{outcomes-written}
 use Rattle.walking.proofs.Counting.{measured-few}
-use Rattle.run.specs.Run.{Sheet, sheet, run-circuit, run-of}
-use Rattle.run.proofs.ReadBack.{Accepted-run, accepted-run, held}
+use Rattle.run.specs.Run.{Sheet, sheet}
+use Rattle.run.proofs.ReadBack.{Accepted-run, accepted-run, run-accepts, held}
 use Rattle.readouts.specs.Readouts.{Weighed, possible, impossible, weigh-circuit}
 use Rattle.readouts.specs.Coins.{readout-of, Gives}
 use Rattle.readouts.proofs.Given.{impossible-none, none-impossible, possible-one}
@@ -92,16 +90,10 @@ module _ (text stated : List ℕ) (c : Circuit) (meant : meaning text ≡ accept
       in
       subst (λ (d : Circuit). Gives d coins (map value-of stated)) q (record { state = a .state; ran = a .ran; values = v })
 
-  accepts : (s : State) → run (c .qubits) 2 (c .ops) (begin (c .qubits) coins) ≡ accepted s → run-of text coins longest-record ≡ accepted (sheet (c .qubits) coins s)
-  unfolding run-of run-circuit
-  accepts s r =
+  fits : record-length (c .qubits) (count-measured (c .ops)) ≤ longest-record
+  fits =
       let p = parts text c meant in
-      let l : leb (record-length (c .qubits) (count-measured (c .ops))) longest-record ≡ true =
-      le-leb _ longest-record (record-within (c .qubits) (count-measured (c .ops)) (p .few-qubits) (omega (arith, measured-few (c .ops), p .few-operations)))
-      in
-      ap (λ (v : Verdict Circuit). then v (λ d. unless (leb (record-length (d .qubits) (count-measured (d .ops))) longest-record) 8 0 (run-circuit d coins))) meant
-      ∙ ap (λ (b : Bool). unless b 8 0 (run-circuit c coins)) l
-      ∙ ap (λ (v : Verdict State). then v (λ e. accepted (sheet (c .qubits) coins e))) r
+      record-within (c .qubits) (count-measured (c .ops)) (p .few-qubits) (omega (arith, measured-few (c .ops), p .few-operations))
 
   gives-leaves : first-other stated ≡ none → Gives c coins (map value-of stated) → Leaves-readout text coins longest-record stated
   gives-leaves good g =
@@ -109,7 +101,7 @@ module _ (text stated : List ℕ) (c : Circuit) (meant : meaning text ≡ accept
       let a : Accepted-run text coins s = record { circuit = c; meant = meant; state = g .state; ran = g .ran; is = refl } in
       record {
         sheet = s;
-        is = accepts (g .state) (g .ran);
+        is = run-accepts text coins longest-record c (g .state) meant fits (g .ran);
         holds = readout-left text coins s a ∙ ap (map value-byte) (g .values) ∙ values-back stated good;
       }
 

@@ -1,6 +1,6 @@
 -- Words with a bit for each row, built bit by bit, and the places of rows. Assumes nothing.
 use mathlib.Core.Path.{_≡_, refl, _∙_, ap, ap₂}
-use mathlib.Core.Bool.{Bool, true, false, _&&_}
+use mathlib.Core.Bool.{Bool, true, false, _&&_, and-true, and-false}
 use mathlib.Core.List.{[], _∷_}
 use Prim.Native.Nat.{ℕ, zero, suc, _+_, _*_, _%_, _^_, _≤_, _<_}
 use native.Mathlib.Decide.{decLt}
@@ -30,21 +30,15 @@ one-bit false k i h = ap (bit k) (ap (λ (n : ℕ). n % 2 ^ 64) (zero-mul (2 ^ i
 pub next-bit : (f : ℕ → Bool) (k i : ℕ) → (ltb k i && f k) ⊕ (f i && eqb k i) ≡ (ltb k (i + 1) && f k)
 next-bit f k i = go (decLt k i) (decLt i k)
   where
-    none : (b : Bool) → (b && false) ≡ false
-    none = cases.tested (cases.bit ∷ []) cases.bit _ _ tt
-
     same : (b : Bool) → b ⊕ false ≡ b
     same = cases.tested (cases.bit ∷ []) cases.bit _ _ tt
 
-    all : (b : Bool) → (b && true) ≡ b
-    all = cases.tested (cases.bit ∷ []) cases.bit _ _ tt
-
     go : Dec (k < i) → Dec (i < k) → (ltb k i && f k) ⊕ (f i && eqb k i) ≡ (ltb k (i + 1) && f k)
-    go (yes h) d = rw (lt-ltb k i h, lt-ltb k (i + 1) (omega arith), ne-eqb k i (λ e. omega arith), none (f i)) (same (f k))
-    go (no g) (yes h) = rw (le-ltb k i (omega arith), le-ltb k (i + 1) (omega arith), ne-eqb k i (λ e. omega arith)) (none (f i))
+    go (yes h) d = rw (lt-ltb k i h, lt-ltb k (i + 1) (omega arith), ne-eqb k i (λ e. omega arith), and-false (f i)) (same (f k))
+    go (no g) (yes h) = rw (le-ltb k i (omega arith), le-ltb k (i + 1) (omega arith), ne-eqb k i (λ e. omega arith)) (and-false (f i))
     go (no g) (no h) =
         let e : k ≡ i = omega arith in
-        rw (e, le-ltb i i (omega arith), lt-ltb i (i + 1) (omega arith), eq-eqb i i refl) (all (f i))
+        rw (e, le-ltb i i (omega arith), lt-ltb i (i + 1) (omega arith), eq-eqb i i refl) (and-true (f i))
 
 pub built-more : (f : ℕ → Bool) (i w : ℕ) (b : Bool) → i < 64 → Built f i w → b ≡ f i → Built f (i + 1) (bitXor w ((boolByte b * 2 ^ i) % 2 ^ 64))
 built-more f i w b h a e k = bit-xor k w _ ∙ ap₂ _⊕_ (a k) (one-bit b k i h ∙ ap (λ (c : Bool). c && eqb k i) e) ∙ next-bit f k i

@@ -7,9 +7,8 @@ use native.Mathlib.Omega.{arith}
 use lib.ListN.{length, getD, take, drop, length-append, List·getD-append}
 use lib.Seq.{take-at, drop-append-add, getD-append-add}
 use Rattle.pauli.specs.Texts.{row-text}
-use Rattle.clifford.specs.Tableau.{Rows}
+use Rattle.clifford.specs.Tableau.{Rows, numbered}
 use Rattle.records.specs.Record.{rows-text, trailer, record-with}
-use Rattle.records.specs.Reading.{numbered}
 use Rattle.records.proofs.Lengths.{length-row-text, length-rows-text}
 use Rattle.records.proofs.Joined.{block}
 use Rattle.records.proofs.Places.{rows-numbered, row-of-place, byte-of-part}

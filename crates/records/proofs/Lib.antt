@@ -12,6 +12,8 @@ pub mod Places
 pub mod Bytes
 pub mod Written
 pub mod Spelled
+pub mod Meant
+pub mod Misread
 pub mod Trailer
 pub mod Again
 pub mod Start

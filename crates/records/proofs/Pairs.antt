@@ -8,20 +8,13 @@ use native.Mathlib.Omega.{arith}
 use lib.Dec.{eqb}
 use borrow.Author.Tests.{lt-ltb, le-ltb, eq-eqb, ne-eqb, eqb-true, eqb-false}
 use Rattle.answers.specs.First.{lowest}
-use Rattle.answers.proofs.First.{Answer, lowest-is, lowest-none}
+use Rattle.answers.proofs.First.{lowest-none, none-passes}
 use Rattle.pauli.specs.Letters.{_⊕_}
 use Rattle.pauli.specs.Rows.{Letters, anticommute}
 use Rattle.pauli.proofs.RowLaws.{anticommute-self, anticommute-swap}
-use Rattle.clifford.specs.Tableau.{Rows, Paired}
-use Rattle.records.specs.Reading.{numbered, wrong-pair, is-some, first-wrong}
-
-pub numbered-low : (n : ℕ) (t : Rows) (i : ℕ) → i < n → numbered n t i ≡ t .destabilizer i
-numbered-low n t i l = rw (lt-ltb i n l)
-
-pub numbered-high : (n : ℕ) (t : Rows) (i : ℕ) → numbered n t (n + i) ≡ t .stabilizer i
-numbered-high n t i =
-    let e : n + i - n ≡ i = omega arith in
-    rw (le-ltb (n + i) n (omega arith), e)
+use Rattle.clifford.specs.Tableau.{Rows, Paired, numbered}
+use Rattle.clifford.proofs.Partners.{numbered-low, numbered-high}
+use Rattle.records.specs.Reading.{wrong-pair, is-some, first-wrong}
 
 pub xor-same : (a b : Bool) → a ≡ b → a ⊕ b ≡ false
 xor-same true true e = refl
@@ -36,14 +29,6 @@ same-xor false b e = sym e
 none-found : (o : Option ℕ) → is-some o ≡ false → o ≡ none
 none-found none e = refl
 none-found (some k) e = absurd (true≢false e)
-
--- the lowest that passes is none: no number passes
-pub none-passes : (f : ℕ → Bool) (n : ℕ) → lowest f n ≡ none → (i : ℕ) → i < n → f i ≡ false
-none-passes f n e = go (lowest f n) e (lowest-is f n)
-  where
-    go : (o : Option ℕ) → o ≡ none → Answer f n o → (i : ℕ) → i < n → f i ≡ false
-    go none e k = k
-    go (some p) e k = absurd (true≢false (ap is-some e))
 
 module _ (n : ℕ) (t : Rows) where
   abbrev crossed : ℕ → ℕ → Bool

@@ -9,11 +9,10 @@ use lib.ListN.{getD, take, drop}
 use lib.Seq.{getD-take, getD-drop}
 use Rattle.pauli.specs.Texts.{listed, row-text}
 use Rattle.pauli.proofs.Listed.{listed-ext}
-use Rattle.clifford.specs.Tableau.{Rows}
+use Rattle.clifford.specs.Tableau.{Rows, numbered}
 use Rattle.records.specs.Record.{joined, rows-text}
-use Rattle.records.specs.Reading.{numbered}
 use Rattle.records.proofs.Joined.{listed-split, joined-append}
-use Rattle.records.proofs.Pairs.{numbered-low, numbered-high}
+use Rattle.clifford.proofs.Partners.{numbered-low, numbered-high}
 
 pub rows-numbered : (n : ℕ) (t : Rows) → joined (listed (λ i. row-text n (numbered n t i)) (n + n)) ≡ rows-text n t
 unfolding rows-text

@@ -13,12 +13,12 @@ use borrow.Author.Tests.{lt-ltb, le-ltb, ltb-true, not-false}
 use Rattle.pauli.specs.Letters.{I}
 use Rattle.pauli.specs.Texts.{row-text, fits-at}
 use Rattle.pauli.proofs.Listed.{listed-ext}
-use Rattle.clifford.specs.Tableau.{blank}
+use Rattle.clifford.specs.Tableau.{blank, numbered}
 use Rattle.records.specs.Record.{joined, rows-text}
-use Rattle.records.specs.Reading.{is-mark, byte-fits, first-bad, row-in, rows-in, numbered}
+use Rattle.records.specs.Reading.{is-mark, byte-fits, first-bad, row-in, rows-in}
 use Rattle.records.proofs.Joined.{blocks}
 use Rattle.records.proofs.RowTexts.{text-spelled, spelled-end}
-use Rattle.records.proofs.Pairs.{none-passes}
+use Rattle.answers.proofs.First.{none-passes}
 use Rattle.records.proofs.Outcomes.{Marks}
 use Rattle.records.proofs.Held.{Tidy}
 use Rattle.records.proofs.Places.{rows-numbered, all-rows, row-within, place-of-row, byte-of-part}

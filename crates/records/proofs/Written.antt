@@ -15,13 +15,14 @@ use Rattle.answers.proofs.First.{lowest-none}
 use Rattle.pauli.specs.Letters.{I}
 use Rattle.pauli.specs.Rows.{Row}
 use Rattle.pauli.specs.Texts.{row-text, fits-at, spelled}
-use Rattle.clifford.specs.Tableau.{Rows, blank}
+use Rattle.clifford.specs.Tableau.{Rows, blank, numbered}
 use Rattle.records.specs.Record.{low-first, rows-text, to-rows, trailer, record-with, record-length}
-use Rattle.records.specs.Reading.{number-in, last-twelve, first-distance, second-distance, qubits-in, marked, last-record, outcome-count, outcome-part, is-mark, byte-fits, first-bad, row-in, rows-in, numbered, first-wrong, reading, read-of}
+use Rattle.records.specs.Reading.{number-in, last-twelve, first-distance, second-distance, qubits-in, marked, last-record, outcome-count, outcome-part, is-mark, byte-fits, first-bad, row-in, rows-in, first-wrong, reading, read-of}
 use Rattle.records.proofs.Lengths.{length-trailer, length-record, square-below}
 use Rattle.records.proofs.Numbers.{number-low}
 use Rattle.records.proofs.RowTexts.{text-fits, spelled-text}
-use Rattle.records.proofs.Pairs.{numbered-low, numbered-high, paired-none}
+use Rattle.clifford.proofs.Partners.{numbered-low, numbered-high}
+use Rattle.records.proofs.Pairs.{paired-none}
 use Rattle.records.proofs.Held.{Tidy, Held}
 use Rattle.records.proofs.Ending.{Ending, sealed-by, read-ended}
 use Rattle.records.proofs.Taken.{taken-as}

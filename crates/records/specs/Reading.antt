@@ -11,7 +11,7 @@ use Rattle.pauli.specs.Letters.{_⊕_}
 use Rattle.pauli.specs.Rows.{Row, anticommute}
 use Rattle.pauli.specs.Texts.{fits-at, spelled}
 use Rattle.limits.specs.Limits.{most-qubits, most-operations}
-use Rattle.clifford.specs.Tableau.{Rows, blank}
+use Rattle.clifford.specs.Tableau.{Rows, blank, numbered}
 use Rattle.records.specs.Record.{to-rows}
 
 -- the number that stands in some bytes, lowest byte first
@@ -68,16 +68,16 @@ first-bad n count r = lowest (λ k. not (byte-fits n count k (getD r k 0))) (cou
 unfoldable pub row-in : ℕ → ℕ → List ℕ → ℕ → Row
 row-in n count r i = spelled (take (n + 1) (drop (count + i * (n + 1)) r))
 
+-- row i of the 2n of the last record of these bytes
+abbrev pub record-row : List ℕ → ℕ → Row
+record-row s i = row-in (qubits-in s) (outcome-count s) (last-record s) i
+
 -- the rows of this record
 unfoldable pub rows-in : ℕ → ℕ → List ℕ → Rows
 rows-in n count r = record {
   destabilizer = λ i. cond (ltb i n) (row-in n count r i) blank;
   stabilizer = λ i. cond (ltb i n) (row-in n count r (n + i)) blank;
 }
-
--- row i of the 2n rows: destabilizers 0 to n-1, stabilizers n to 2n-1; row i and row n + i are partners
-abbrev pub numbered : ℕ → Rows → ℕ → Row
-numbered n t i = cond (ltb i n) (t .destabilizer i) (t .stabilizer (i - n))
 
 -- a lower and an upper row are a wrong pair: partners that commute, or others that anticommute
 abbrev pub wrong-pair : ℕ → Rows → ℕ → ℕ → Bool

@@ -6,13 +6,14 @@ use Prim.Native.Nat.{ℕ, suc, _+_, _≤_}
 use native.Mathlib.Omega.{arith}
 use lib.ListN.{length, length-append}
 use Rattle.answers.specs.Verdict.{accepted}
+use Rattle.answers.proofs.Accepting.{then-accepted}
 use Rattle.clifford.specs.declared.Op.{Op}
 use Rattle.clifford.specs.declared.Op.the-variants.{Gate as apply, Measure as measure}
 use Rattle.clifford.specs.Tableau.{gated}
 use Rattle.clifford.specs.Measurement.{random-row, Answer, random-answer, fixed-answer}
 use Rattle.clifford.specs.Run.{State, coin, concluded, settle, step, run}
 use Rattle.circuit.specs.Text.{measures, count-measured}
-use Rattle.circuit.proofs.Walk.{then-accepted, measures-one}
+use Rattle.circuit.proofs.Walk.{measures-one}
 
 pub measured-few : (ops : List Op) → count-measured ops ≤ length ops
 measured-few [] = omega arith

@@ -8,12 +8,13 @@ use lib.ListN.{length, drop}
 use lib.Seq.{append-snoc}
 use Rattle.limits.specs.Limits.{most-qubits, most-operations}
 use Rattle.answers.specs.Verdict.{Verdict, accepted, refused, then}
+use Rattle.answers.proofs.Accepting.{then-accepted}
 use Rattle.clifford.specs.declared.Op.{Op}
 use Rattle.clifford.specs.Run.{State, run, begin}
 use Rattle.circuit.specs.Text.{operations}
 use Rattle.circuit.proofs.Positions.{front, past}
 use Rattle.checking.proofs.Counting.{then-then}
-use Rattle.circuit.proofs.Walk.{then-accepted, allowed-line, operations-end, next-line, next-at, measures-one}
+use Rattle.circuit.proofs.Walk.{allowed-line, operations-end, next-line, next-at, measures-one}
 use Rattle.tally.specs.declared.Tally.{Tally}
 use Rattle.tally.specs.Tally.{randoms}
 use Rattle.tally.specs.parts.Stepping.{none-yet}

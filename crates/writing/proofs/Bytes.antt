@@ -1,6 +1,6 @@
 -- Planes made byte by byte out of words, and the test of one bit of a byte. Assumes nothing.
-use mathlib.Core.Path.{_≡_, refl, sym, _∙_, ap}
-use mathlib.Core.Bool.{Bool, true, false, _&&_}
+use mathlib.Core.Path.{_≡_, sym, _∙_, ap}
+use mathlib.Core.Bool.{Bool, _&&_, and-true}
 use mathlib.Core.List.{List}
 use Prim.Native.Nat.{ℕ, zero, suc, _+_, _-_, _*_, _/_, _%_, _^_, _≤_, _<_}
 use native.Mathlib.Decide.{decLt}
@@ -20,11 +20,7 @@ use Rattle.writing.specs.parts.Planes.{byte-place, plane-size, byte-of, 
 -- ---- bits of a byte of a word
 
 low-bit : (k v : ℕ) → k < 8 → bit k (v % 256) ≡ bit k v
-low-bit k v h = ap (bit k) (sym (and-mask v 8)) ∙ bit-and k v (2 ^ 8 - 1) ∙ ap (λ (b : Bool). bit k v && b) (bit-ones 8 k h) ∙ same (bit k v)
-  where
-    same : (b : Bool) → (b && true) ≡ b
-    same true = refl
-    same false = refl
+low-bit k v h = ap (bit k) (sym (and-mask v 8)) ∙ bit-and k v (2 ^ 8 - 1) ∙ ap (λ (b : Bool). bit k v && b) (bit-ones 8 k h) ∙ and-true (bit k v)
 
 shifted-bit : (k s v : ℕ) → bit k (v / 2 ^ s) ≡ bit (s + k) v
 unfolding bit

@@ -1,30 +1,31 @@
--- More than k vectors of k bits are dependent. Assumes nothing.
+-- More than k vectors of k bits are dependent, so that of more than 2n rows on n qubits some nonempty choice has a product with only I letters. Assumes nothing.
 use mathlib.Core.Path.{_≡_, refl, sym, _∙_, ap}
-use mathlib.Core.Bool.{Bool, true, false, _&&_, cond, true≢false}
+use mathlib.Core.Bool.{Bool, true, false, _&&_, cond, true≢false, and-false}
 use mathlib.Core.List.{[], _∷_}
 use mathlib.Core.Option.{Option, none, some}
-use Prim.Native.Nat.{ℕ, zero, suc, _+_, _<_}
+use Prim.Native.Nat.{ℕ, zero, suc, _+_, _-_, _<_}
 use native.Mathlib.Omega.{arith}
-use lib.Dec.{eqb}
-use borrow.Author.Tests.{eqb-true, eqb-false, eq-eqb, ne-eqb}
-use Rattle.pauli.specs.Letters.{_⊕_}
+use lib.Dec.{eqb, ltb}
+use borrow.Author.Tests.{eqb-true, eqb-false, eq-eqb, ne-eqb, lt-ltb, le-ltb}
+use Rattle.pauli.specs.Letters.{Letter, I, _⊕_, x, z, _·_}
 use Rattle.pauli.specs.Sums.{sum}
-use Rattle.pauli.specs.Rows.{odd-number}
-use Rattle.pauli.proofs.Cases.{tested, bit}
+use Rattle.pauli.specs.Rows.{odd-number, Row, phased, product}
+use Rattle.pauli.proofs.Cases.{tested, bit, ltr}
 use Rattle.pauli.proofs.Sums.{Adds, sum-cong, sum-plus, sum-zero, sum-at, sum-map}
-use Rattle.pauli.proofs.LetterLaws.{both, xor-adds}
+use Rattle.pauli.proofs.LetterLaws.{both, xor-adds, letter-bits}
 use Rattle.answers.specs.First.{lowest}
 use Rattle.answers.proofs.First.{Answer, lowest-is}
+use Rattle.choices.specs.Choices.{Choice, chosen-product, Only-I}
 
 nat-adds : Adds 0 _+_
 nat-adds = record { left = λ a. omega arith; right = λ a. omega arith; medial = λ a b c d. omega arith }
 
-abbrev pub one : Bool → ℕ
+abbrev one : Bool → ℕ
 one true = 1
 one false = 0
 
 -- how many of the first m pass
-abbrev pub count : (ℕ → Bool) → ℕ → ℕ
+abbrev count : (ℕ → Bool) → ℕ → ℕ
 count f m = sum 0 _+_ (λ i. one (f i)) m
 
 count-none : (f : ℕ → Bool) (m : ℕ) → ((i : ℕ) → i < m → f i ≡ false) → count f m ≡ 0
@@ -40,16 +41,13 @@ count-less f p m h e = sum-at nat-adds _ _ 1 p m h (λ i. go i (eqb i p) refl)
     go i true u = rw (eqb-true i p u, e)
     go i false u = omega arith
 
-pub record Dependence (k m : ℕ) (alive : ℕ → Bool) (v : ℕ → ℕ → Bool) : Type 0 where
+record Dependence (k m : ℕ) (alive : ℕ → Bool) (v : ℕ → ℕ → Bool) : Type 0 where
   pub c : ℕ → Bool
   pub i : ℕ
   pub below : i < m
   pub used : c i ≡ true
   pub within : (j : ℕ) → alive j ≡ false → c j ≡ false
   pub zeros : (j : ℕ) → j < k → odd-number (λ i. c i && v i j) m ≡ false
-
-and-no : (b : Bool) → (b && false) ≡ false
-and-no = tested (bit ∷ []) bit _ _ tt
 
 clash : {A : Type 0} (b : Bool) → b ≡ true → b ≡ false → A
 clash b e f = absurd (true≢false (sym e ∙ f))
@@ -70,7 +68,7 @@ skip : (k m : ℕ) (alive : ℕ → Bool) (v : ℕ → ℕ → Bool) → ((i : �
 skip k m alive v l d = record { c = d .c; i = d .i; below = d .below; used = d .used; within = d .within; zeros = λ j h. go j h (eqb j k) refl }
   where
     cell : (i : ℕ) → i < m → (b : Bool) → alive i ≡ b → (d .c i && v i k) ≡ false
-    cell i h true e = ap (λ b. d .c i && b) (sym (ap (λ b. b && v i k) e) ∙ l i h) ∙ and-no (d .c i)
+    cell i h true e = ap (λ b. d .c i && b) (sym (ap (λ b. b && v i k) e) ∙ l i h) ∙ and-false (d .c i)
     cell i h false e = ap (λ b. b && v i k) (d .within i e)
 
     go : (j : ℕ) → j < suc k → (b : Bool) → eqb j k ≡ b → odd-number (λ i. d .c i && v i j) m ≡ false
@@ -128,7 +126,7 @@ module _ (k m p : ℕ) (alive : ℕ → Bool) (v : ℕ → ℕ → Bool) where
           ap (λ b. odd-number (λ i. d .c i && v i j) m ⊕ b) (sum-map false _⊕_ false _⊕_ (λ b. b && v p j) refl (right-and (v p j)) (λ i. d .c i && v i k) m)
           ∙ sym (sum-plus xor-adds _ _ m) ∙ sum-cong xor-adds _ _ m (λ i hi. sym (spread (d .c i) (v i j) (v i k) (v p j))) ∙ d .zeros j (omega (arith, eqb-false j k e))
 
-pub dependent : (k m : ℕ) (alive : ℕ → Bool) (v : ℕ → ℕ → Bool) → k < count alive m → Dependence k m alive v
+dependent : (k m : ℕ) (alive : ℕ → Bool) (v : ℕ → ℕ → Bool) → k < count alive m → Dependence k m alive v
 dependent zero m alive v h = first m alive v h (lowest alive m) (lowest-is alive m)
 dependent (suc k) m alive v h = go (dependent k m) (lowest (λ i. alive i && v i k) m) (lowest-is (λ i. alive i && v i k) m)
   where
@@ -137,3 +135,52 @@ dependent (suc k) m alive v h = go (dependent k m) (lowest (λ i. alive i && v i
     go ih (some p) l =
         let e = both (alive p) (v p k) (l .passes) in
         pivot k m p alive v (l .below) (e .0) (e .1) (ih (without p alive) (cleared k m p alive v) (omega (arith, count-less alive p m (l .below) (e .0))))
+
+count-all : (m : ℕ) → count (λ i. true) m ≡ m
+count-all zero = refl
+count-all (suc m) = omega (arith, count-all m)
+
+no-bits : (l : Letter) → x l ≡ false → z l ≡ false → l ≡ I
+no-bits l p q = sym (letter-bits l) ∙ rw (p, q)
+
+module _ (n : ℕ) (rows : ℕ → Row) where
+  -- a bit of a product is the exclusive or of those of the chosen
+  product-bit : (f : Letter → Bool) → f I ≡ false → ((l m : Letter) → f (l · m) ≡ f l ⊕ f m) → (c : Choice) (k b : ℕ) → f (chosen-product n rows c k .letters b) ≡ odd-number (λ i. c i && f (rows i .letters b)) k
+  product-bit f e m c zero b = e
+  product-bit f e m c (suc k) b = go (c k) ∙ ap (λ a. a ⊕ (c k && f (rows k .letters b))) (product-bit f e m c k b)
+    where
+      go : (a : Bool) → f ((cond a (product n (chosen-product n rows c k) (phased (rows k))) (chosen-product n rows c k)) .letters b) ≡ f (chosen-product n rows c k .letters b) ⊕ (a && f (rows k .letters b))
+      go true = m (chosen-product n rows c k .letters b) (rows k .letters b)
+      go false = sym (xor-adds .right _)
+
+  -- the x bits of the n qubits, then their z bits
+  cell : ℕ → ℕ → Bool
+  cell i j = cond (ltb j n) (x (rows i .letters j)) (z (rows i .letters (j - n)))
+
+  pub record Dependent-rows (m : ℕ) : Type 0 where
+    pub choice : Choice
+    pub number : ℕ
+    pub below : number < m
+    pub used : choice number ≡ true
+    pub nothing : Only-I n (chosen-product n rows choice m .letters)
+
+  pub dependent-rows : (m : ℕ) → n + n < m → Dependent-rows m
+  unfolding cell
+  dependent-rows m h = record { choice = d .c; number = d .i; below = d .below; used = d .used; nothing = λ b hb. no-bits _ (product-bit x refl x-mul (d .c) m b ∙ at-x b hb) (product-bit z refl z-mul (d .c) m b ∙ at-z b hb) }
+    where
+      d : Dependence (n + n) m (λ i. true) cell
+      d = dependent (n + n) m (λ i. true) cell (omega (arith, count-all m))
+
+      x-mul : (l m : Letter) → x (l · m) ≡ x l ⊕ x m
+      x-mul = tested (ltr ∷ ltr ∷ []) bit _ _ tt
+
+      z-mul : (l m : Letter) → z (l · m) ≡ z l ⊕ z m
+      z-mul = tested (ltr ∷ ltr ∷ []) bit _ _ tt
+
+      at-x : (b : ℕ) → b < n → odd-number (λ i. d .c i && x (rows i .letters b)) m ≡ false
+      at-x b hb = sum-cong xor-adds _ _ m (λ i hi. rw (lt-ltb b n hb)) ∙ d .zeros b (omega arith)
+
+      at-z : (b : ℕ) → b < n → odd-number (λ i. d .c i && z (rows i .letters b)) m ≡ false
+      at-z b hb =
+          let e : n + b - n ≡ b = omega arith in
+          sum-cong xor-adds _ _ m (λ i hi. rw (le-ltb (n + b) n (omega arith), e)) ∙ d .zeros (n + b) (omega arith)
