@@ -8,20 +8,20 @@ use std::io::{self, BufRead, BufReader, Lines};
 const SHOWN: u64 = 5;
 const WIDTH: usize = 150;
 
-fn open(path: &str) -> io::Result<Lines<BufReader<File>>> {
+pub fn open(path: &str) -> io::Result<Lines<BufReader<File>>> {
     let file = File::open(path)
         .map_err(|error| io::Error::new(error.kind(), format!("{path}: {error}")))?;
     Ok(BufReader::new(file).lines())
 }
 
-fn shortened(line: &str) -> String {
+pub fn shortened(line: &str) -> String {
     match line.get(..WIDTH) {
         Some(front) => format!("{front}... ({} characters)", line.len()),
         None => line.to_string(),
     }
 }
 
-fn next(lines: &mut Lines<BufReader<File>>) -> io::Result<String> {
+pub fn next(lines: &mut Lines<BufReader<File>>) -> io::Result<String> {
     match lines.next() {
         Some(line) => line,
         None => Ok("no answer".to_string()),

@@ -1,10 +1,15 @@
 //! The second program: everything the library answers, written once more
 //! from the documents alone, letter by letter. It makes cases for a
 //! comparison, answers them, counts what they cover, checks itself against a
-//! state vector, and prints what `shot` prints.
+//! state vector, holds answers to statements about products of rows, and prints
+//! what `shot` prints.
 
 mod answers;
 mod cases;
+mod choices;
+mod choices_cases;
+mod choices_judge;
+mod choices_selftest;
 mod circuit;
 mod coverage;
 mod damage;
@@ -41,6 +46,8 @@ second cases SEED COUNT      write the fixed sweeps and COUNT random cases
 second answer                read cases, write one answer line for each
 second coverage              read cases, print what they cover
 second differ CASES A B      compare its answers A to CASES with the answers B
+second choices SEED COUNT    write the cases of request m, with COUNT random runs
+second chosen CASES ANSWERS  hold a harness's answers to these against request m
 second state SEED COUNT      run COUNT random circuits beside a state vector
 second shot                  read the input of `shot`, print what it prints
 second selftest              run the examples of the documents
@@ -57,6 +64,13 @@ fn write_cases(seed: u64, count: u64) -> io::Result<bool> {
     for _ in 0..count {
         write(cases::case(&mut random))?;
     }
+    out.flush()?;
+    Ok(true)
+}
+
+fn write_choices(seed: u64, count: u64) -> io::Result<bool> {
+    let mut out = BufWriter::new(io::stdout().lock());
+    choices_cases::all(seed, count, &mut |case: Case| writeln!(out, "{}", case.line()))?;
     out.flush()?;
     Ok(true)
 }
@@ -116,6 +130,10 @@ fn command(words: &[&str]) -> io::Result<bool> {
         ["cases", seed, count] => {
             write_cases(seed.parse().map_err(bad)?, count.parse().map_err(bad)?)
         }
+        ["choices", seed, count] => {
+            write_choices(seed.parse().map_err(bad)?, count.parse().map_err(bad)?)
+        }
+        ["chosen", cases, answers] => choices_judge::print(cases, answers),
         ["answer"] => answer_cases(),
         ["coverage"] => print_coverage(),
         ["state", seed, count] => {

@@ -72,7 +72,7 @@ pub struct Finished {
     pub taken: usize,
 }
 
-fn outcome_byte(random: bool, value: bool) -> u8 {
+pub fn outcome_byte(random: bool, value: bool) -> u8 {
     match (random, value) {
         (false, false) => b'0',
         (false, true) => b'1',

@@ -96,7 +96,8 @@ fn rows(part: &[u8], n: usize, before: usize) -> Result<Vec<Row>, Refusal> {
     Ok(found)
 }
 
-pub fn read(bytes: &[u8]) -> Result<Record, Refusal> {
+/// The record by the refusals 9 and 10, its rows properly paired or not.
+pub fn unpaired(bytes: &[u8]) -> Result<Record, Refusal> {
     let Some((n, first, second)) = trailer(bytes) else {
         return Err(Refusal::at(9, 0));
     };
@@ -104,9 +105,13 @@ pub fn read(bytes: &[u8]) -> Result<Record, Refusal> {
     let rows_at = bytes.len() - first;
     let outcomes = outcomes(&bytes[start..rows_at])?;
     let rows = rows(&bytes[rows_at..], n, outcomes.len())?;
-    let tableau = Tableau { n, rows };
-    if let Some(lower) = tableau.first_wrong_pair() {
+    Ok(Record { start, length: second, outcomes, tableau: Tableau { n, rows } })
+}
+
+pub fn read(bytes: &[u8]) -> Result<Record, Refusal> {
+    let found = unpaired(bytes)?;
+    if let Some(lower) = found.tableau.first_wrong_pair() {
         return Err(Refusal::at(11, lower));
     }
-    Ok(Record { start, length: second, outcomes, tableau })
+    Ok(found)
 }

@@ -1,8 +1,10 @@
 //! The examples of document 01, some of `MR` in document 02, and some points
 //! of the order of refusals that are easy to get wrong, each written out with
-//! its answer. Those of stated readouts are in `probability_selftest`.
+//! its answer. Those of stated readouts are in `probability_selftest`, those of
+//! products over choices in `choices_selftest`.
 
 use crate::answers;
+use crate::choices_selftest;
 use crate::circuit::Operation;
 use crate::probability_selftest;
 use crate::protocol::{hex, lent, Case};
@@ -221,6 +223,7 @@ pub fn run() -> Result<String, String> {
     records(&mut tests);
     limits(&mut tests);
     probability_selftest::all(&mut tests);
+    choices_selftest::all(&mut tests);
     if tests.failed.is_empty() {
         return Ok(format!("examples of documents 01 and 02: {} as written", tests.passed));
     }

@@ -2,6 +2,7 @@
 //! them share one power of 1/sqrt 2. The gates are the matrices printed in
 //! source document 000, sections 3 and 4.1; CZ, which is not printed there,
 //! is CNOT between two H on the target. Nothing here knows of a tableau.
+//! `choices_selftest` multiplies the same matrices.
 
 use crate::circuit::Operation;
 use crate::letters::Letter;
@@ -18,13 +19,13 @@ const fn g(re: i64, im: i64) -> Gaussian {
     Gaussian { re, im }
 }
 
-const O: Gaussian = g(0, 0);
-const ONE: Gaussian = g(1, 0);
-const MINUS: Gaussian = g(-1, 0);
-const TIMES_I: Gaussian = g(0, 1);
-const MINUS_I: Gaussian = g(0, -1);
+pub const O: Gaussian = g(0, 0);
+pub const ONE: Gaussian = g(1, 0);
+pub const MINUS: Gaussian = g(-1, 0);
+pub const TIMES_I: Gaussian = g(0, 1);
+pub const MINUS_I: Gaussian = g(0, -1);
 
-type Two = [[Gaussian; 2]; 2];
+pub type Two = [[Gaussian; 2]; 2];
 
 const IDENTITY: Two = [[ONE, O], [O, ONE]];
 const PAULI_X: Two = [[O, ONE], [ONE, O]];
@@ -36,12 +37,21 @@ const HADAMARD: Two = [[ONE, ONE], [ONE, MINUS]];
 /// Over 00, 01, 10, 11, the control written first.
 const CNOT: [[Gaussian; 4]; 4] = [[ONE, O, O, O], [O, ONE, O, O], [O, O, O, ONE], [O, O, ONE, O]];
 
+pub fn pauli(letter: Letter) -> Two {
+    match letter {
+        Letter::I => IDENTITY,
+        Letter::X => PAULI_X,
+        Letter::Y => PAULI_Y,
+        Letter::Z => PAULI_Z,
+    }
+}
+
 impl Gaussian {
-    fn plus(self, other: Gaussian) -> Gaussian {
+    pub fn plus(self, other: Gaussian) -> Gaussian {
         g(self.re + other.re, self.im + other.im)
     }
 
-    fn times(self, other: Gaussian) -> Gaussian {
+    pub fn times(self, other: Gaussian) -> Gaussian {
         let re = self.re * other.re - self.im * other.im;
         g(re, self.re * other.im + self.im * other.re)
     }
@@ -179,13 +189,7 @@ impl State {
     pub fn is_left_by(&self, row: &Row) -> bool {
         let mut image = self.clone();
         for (q, letter) in row.letters.iter().enumerate() {
-            let matrix = match letter {
-                Letter::I => IDENTITY,
-                Letter::X => PAULI_X,
-                Letter::Y => PAULI_Y,
-                Letter::Z => PAULI_Z,
-            };
-            image.one(matrix, q);
+            image.one(pauli(*letter), q);
         }
         let sign = if row.minus { MINUS } else { ONE };
         for amplitude in &mut image.amplitudes {

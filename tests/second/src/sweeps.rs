@@ -15,7 +15,7 @@ use crate::row::{Row, LONGEST_TEXT};
 use crate::tableau::Tableau;
 use std::io;
 
-type Write<'a> = &'a mut dyn FnMut(Case) -> io::Result<()>;
+pub type Write<'a> = &'a mut dyn FnMut(Case) -> io::Result<()>;
 
 pub fn all(write: Write) -> io::Result<()> {
     bytes_of_lines(write)?;
