@@ -22,9 +22,6 @@ xor-adds = record { left = tested (bit ∷ []) bit _ _ tt; right = tested (bit �
 pub power-adds : Adds i0 _⊞_
 power-adds = record { left = tested (pow ∷ []) pow _ _ tt; right = tested (pow ∷ []) pow _ _ tt; medial = tested (pow ∷ pow ∷ pow ∷ pow ∷ []) pow _ _ tt }
 
-pub letter-adds : Adds I _·_
-letter-adds = record { left = tested (ltr ∷ []) ltr _ _ tt; right = tested (ltr ∷ []) ltr _ _ tt; medial = tested (ltr ∷ ltr ∷ ltr ∷ ltr ∷ []) ltr _ _ tt }
-
 -- the bits of a letter, and the letter of two bits
 pub x-letter : (a b : Bool) → x (letter a b) ≡ a
 x-letter = tested (bit ∷ bit ∷ []) bit _ _ tt
