@@ -1,4 +1,6 @@
 // The numbered refusals of document 01, and 14 and 15 of document 02, with their places, and the answer of every function that writes into a lent buffer.
+#![tactic(auto)]
+
 ghost use Rattle.std.specs.Prelude.{◌≡◌};
 ghost use Rattle.answers.specs.Refusals.{number_of, place_of};
 

@@ -1,5 +1,7 @@
 // What is done with the records of an archive: one is read and written again from what was read, and two are read and compared, stabilizer rows by
 // packed words.
+#![tactic(auto)]
+
 ghost use Rattle.std.specs.Prelude.{◌≡◌, ◌+◌, ◌≤◌};
 ghost use Rattle.limits.specs.Limits.{most_qubits};
 ghost use Rattle.answers.specs.Refusals.{Writes};

@@ -1,5 +1,7 @@
 // What a tableau by value costs: a hundred thousand times H by the method of the tableau where the first word is `value`, ten million times H on a lent array where it is
 // `lent`, and a hundred thousand times H and M by the methods otherwise. bench/by_value times them.
+#![tactic(auto)]
+
 use clifford::{Gate, One};
 use libc::STDOUT_FILENO;
 use tableau::Tableau;

@@ -1,4 +1,6 @@
 // Reads a whole circuit text: line 1, one pass over the operation lines, and the check.
+#![tactic(auto)]
+
 ghost use Rattle.std.specs.Prelude.{◌≡◌, ◌+◌, ◌-◌, ◌≤◌, length, drop};
 ghost use Rattle.limits.specs.Limits.{most_qubits, most_operations};
 ghost use Rattle.answers.specs.Verdict.{accepted, then};

@@ -1,4 +1,6 @@
 // Reads a line of a circuit text at a position: an operation line, which the check and the run share, or line 1.
+#![tactic(auto)]
+
 ghost use Rattle.std.specs.Prelude.{◌≡◌, [], ◌∷◌};
 ghost use Rattle.circuit.specs.Lines.{closed_by, end_byte};
 ghost use Rattle.circuit.specs.Text.{header, all_below, apart, measures};

@@ -1,4 +1,6 @@
 // Writes circuit texts into a lent buffer, line by line.
+#![tactic(auto)]
+
 ghost use Rattle.std.specs.Prelude.{◌≡◌, ◌+◌, ◌≤◌, ◌<◌, length};
 ghost use Rattle.circuit_writer.specs.Writing.{short_decimal, two_letter, name_text, qubit_text, qubits_text, line_text, header_text};
 ghost use Rattle.circuit_writer.specs.Parts.Storing.{Small, Stores, Puts};

@@ -1,4 +1,6 @@
 // The nine operations of a circuit: five gates on one qubit, two on two, the measurement, and the measurement with a reset. Their rules are in specs/.
+#![tactic(auto)]
+
 ghost use Rattle.std.specs.Prelude.{◌≡◌};
 ghost use Rattle.clifford.specs.Named.{one_letter};
 

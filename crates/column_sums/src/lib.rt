@@ -1,5 +1,7 @@
 // Which packed rows anticommute with each row of a record, for all packed rows at once. A letter that a row has on a qubit tells which of them it differs from there, a bit for
 // each; of two qubits at a time the sixteen sums of such bits are made beforehand, and each row picks one for every two of its letters.
+#![tactic(auto)]
+
 ghost use Rattle.std.specs.Prelude.{◌≡◌, ℕ, ◌+◌, ◌*◌, ◌≤◌, ◌<◌, length, get_or};
 ghost use Rattle.limits.specs.Limits.{most_qubits};
 ghost use Rattle.pauli.specs.Letters.{differ};

@@ -1,5 +1,7 @@
 // The seven gates on a tableau in one lent array, for all rows at once. A gate is a few small steps, each of which loads groups of four words, stores
 // one group, and leaves: values that two stored groups share would keep the compiler from using vectors.
+#![tactic(auto)]
+
 ghost use Rattle.std.specs.Prelude.{cond, ◌≡◌, ◌+◌, ◌<◌, ◌≤◌};
 ghost use Rattle.limits.specs.Limits.{most_qubits};
 ghost use Rattle.clifford.specs.Gates.{Fits};

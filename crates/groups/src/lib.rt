@@ -1,5 +1,7 @@
 // Four words side by side, which have a bit for each row: loaded and stored at once, and what is done to all rows of them. The words are written out one by one, so that the
 // compiler makes vectors of them.
+#![tactic(auto)]
+
 ghost use Rattle.std.specs.Prelude.{true, not, ◌&&◌, ◌≡◌, ◌+◌, ◌%◌, ◌≤◌, eqb};
 ghost use Rattle.pauli.specs.Letters.{◌⊕◌};
 ghost use Rattle.words.specs.Bit.{bit};

@@ -1,5 +1,7 @@
 // One half to the power k as a double, exactly: its 64 bits are written as a whole number and read as an `f64`, and no operation on floats takes part, so that
 // nothing is rounded. Up to k = 1022 the double is not subnormal.
+#![tactic(auto)]
+
 ghost use Rattle.std.specs.Prelude.{◌≡◌, ◌≤◌};
 ghost use Rattle.limits.specs.Limits.{most_halvings};
 ghost use Rattle.half.specs.Half.{half_bits, Halved, Tied};

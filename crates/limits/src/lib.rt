@@ -1,4 +1,6 @@
 // The limits as the code has them, and what follows from them: how long a row text, a record and a printed text can be. A promise cites specs/Limits.antt instead.
+#![tactic(auto)]
+
 pub const MOST_QUBITS: usize = 128;
 
 pub const MOST_OPERATIONS: usize = 4096;

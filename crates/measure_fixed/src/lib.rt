@@ -2,6 +2,8 @@
 // Y is i^3 times Z X. So each row is written with its Z before its X, at 3 for a Y; then each X of a column is carried to the front, at 2
 // for each Z of its own row or an earlier one; and X Z, which may be left of the column, is i^3 times Y. The rows stand in two words, and
 // the parities of the second start from the last one of the first.
+#![tactic(auto)]
+
 ghost use Rattle.std.specs.Prelude.{◌&&◌, ◌≡◌, ℕ, suc, ◌<◌, ◌≤◌};
 ghost use Rattle.limits.specs.Limits.{most_qubits};
 ghost use Rattle.pauli.specs.Rows.{odd_number};

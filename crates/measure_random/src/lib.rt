@@ -1,5 +1,7 @@
 // The random measurement on a tableau in one lent array. Both rows of number p count as all I while the others are multiplied, so that the partner, which is under the mask,
 // becomes old stabilizer p, and stabilizer p itself is left for Z.
+#![tactic(auto)]
+
 ghost use Rattle.std.specs.Prelude.{◌≡◌, ◌<◌, ◌≤◌};
 ghost use Rattle.limits.specs.Limits.{most_qubits};
 ghost use Rattle.clifford.specs.Measurement.{collapsed};

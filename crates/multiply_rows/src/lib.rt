@@ -1,5 +1,7 @@
 // Many rows times one row, in one pass over the columns. At each column all rows under a mask are multiplied at once, the powers of i counted modulo four in two
 // bits a row.
+#![tactic(auto)]
+
 ghost use Rattle.std.specs.Prelude.{◌&&◌, ◌+◌, ◌*◌, ◌<◌, ◌≤◌};
 ghost use Rattle.limits.specs.Limits.{most_qubits};
 ghost use Rattle.pauli.specs.Letters.{◌⊕◌};

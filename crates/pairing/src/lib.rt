@@ -1,5 +1,7 @@
 // Whether the rows of a record are paired properly: which rows anticommute with a row is held against the row's partner, for all rows at once. In the order of the rows the first that
 // is wrong with any other is the lower row of the first wrong pair, since those before it are right with all.
+#![tactic(auto)]
+
 ghost use Rattle.std.specs.Prelude.{◌≡◌, ℕ, ◌+◌, ◌*◌, ◌≤◌, ◌<◌, length};
 ghost use Rattle.answers.specs.First.{lowest};
 ghost use Rattle.limits.specs.Limits.{most_qubits};

@@ -1,5 +1,7 @@
 // Prints a run: the circuit is run into a record, and the lines of the record are put into the lent buffer once they are known to fit. The input
 // of the program `shot` holds the coins in its first line and the circuit behind it.
+#![tactic(auto)]
+
 ghost use Rattle.std.specs.Prelude.{◌+◌, ◌≤◌, length};
 ghost use Rattle.answers.specs.Verdict.{accepted};
 ghost use Rattle.answers.specs.Refusals.{Writes};

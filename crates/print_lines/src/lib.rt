@@ -1,5 +1,7 @@
 // Printed lines, put into a buffer as far as it reaches: each function answers the position behind its text, whether or not there was room, so
 // that one pass over a short buffer measures what another writes. Positions stay below a million, far above the longest printed text.
+#![tactic(auto)]
+
 ghost use Rattle.std.specs.Prelude.{[], ◌∷◌, ◌+◌, ◌*◌, ◌≤◌, ◌<◌, length};
 ghost use Rattle.circuit_writer.specs.Parts.Storing.{Stores};
 ghost use Rattle.print_lines.specs.Line.{digits_of, decimal, kind_word, value_word, outcome_line, refusal_line};

@@ -1,5 +1,7 @@
 // The probability of a stated readout of a circuit text: its lines are walked over the start tableau with the stated values as coins, and the answer is k with
 // its double, the line that rules the readout out, or a refusal. Where the walk stops before the end, the rest of the text says whether it is refused.
+#![tactic(auto)]
+
 ghost use Rattle.std.specs.Prelude.{◌≡◌, ◌+◌, ◌-◌, ◌≤◌, drop};
 ghost use Rattle.limits.specs.Limits.{most_qubits, most_operations};
 ghost use Rattle.answers.specs.Verdict.{accepted, then};

@@ -1,4 +1,6 @@
 // The product of two Pauli rows: two row texts are lent, and a buffer for the answer.
+#![tactic(auto)]
+
 ghost use Rattle.std.specs.Prelude.{◌≡◌, ◌≤◌, ◌-◌, ◌%◌, eqb, length};
 ghost use Rattle.answers.specs.Refusals.{Writes};
 ghost use Rattle.answers.specs.Verdict.{over};

@@ -1,4 +1,6 @@
 // Multiplies the pairs of rows on standard input, a pair to a line with one space between, and prints each product, or its refusal with number and place.
+#![tactic(auto)]
+
 ghost use Rattle.std.specs.Prelude.{◌<◌, ◌≤◌, length};
 
 use answers::{Refusal, Written};

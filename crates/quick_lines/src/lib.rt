@@ -1,4 +1,6 @@
 // An operation line at a position, with its operation as one number: lines of the usual kind are read at once, and all others as circuit reads them.
+#![tactic(auto)]
+
 ghost use Rattle.std.specs.Prelude.{◌≤◌, length};
 ghost use Rattle.limits.specs.Limits.{most_qubits};
 ghost use Rattle.quick_lines.specs.Parts.Coded.{OpAt};

@@ -1,4 +1,6 @@
 // The search for the row of a random measurement, in the two words that have the x bits of the stabilizers on a qubit.
+#![tactic(auto)]
+
 ghost use Rattle.std.specs.Prelude.{◌≡◌, ◌<◌, ◌≤◌};
 ghost use Rattle.limits.specs.Limits.{most_qubits};
 ghost use Rattle.clifford.specs.Measurement.{random_row};

@@ -1,4 +1,6 @@
 // The record reader: the last record of the bytes it is lent, its rows as packed words and the place of its outcomes, or refusal 9, 10 or 11.
+#![tactic(auto)]
+
 ghost use Rattle.packing.specs.View.{Words};
 ghost use Rattle.reading.specs.Answer.{Reads, Hands};
 ghost use Rattle.reading.specs.Parts.Refusing.{Refuses};

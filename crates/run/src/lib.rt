@@ -1,5 +1,7 @@
 // The run of a circuit text on lent coins: its lines are walked over the start tableau, and the record is written at the end, so that a refused run has
 // written nothing. Where the walk stops before the end, the whole text says why.
+#![tactic(auto)]
+
 ghost use Rattle.std.specs.Prelude.{◌≡◌};
 ghost use Rattle.answers.specs.Refusals.{number_of, place_of};
 ghost use Rattle.answers.specs.Verdict.{refused};

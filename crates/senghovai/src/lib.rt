@@ -1,5 +1,7 @@
 // The functions that C programs link, each thin over the library's own: any bytes, any lengths. Each returns the refusal's number, 0 when accepted, and every
 // call writes all places of `answer`. include/senghovai.h says the same in C.
+#![tactic(auto)]
+
 ghost use Rattle.std.specs.Prelude.{◌≡◌};
 ghost use Rattle.archive.specs.Copy.{copy_of};
 ghost use Rattle.archive.specs.Same.{same_of};

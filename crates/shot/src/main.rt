@@ -1,5 +1,7 @@
 // Reads one line of coin characters and a circuit from standard input, and prints the run. An input one byte above the most is enough to tell that
 // it is too long, and no printed text is longer than the buffer.
+#![tactic(auto)]
+
 use answers::Written;
 use libc::{STDIN_FILENO, STDOUT_FILENO};
 

@@ -1,4 +1,6 @@
 // The tableau that a run starts from, in one lent array.
+#![tactic(auto)]
+
 ghost use Rattle.std.specs.Prelude.{◌≡◌, ℕ, ◌<◌, ◌≤◌, get_or};
 ghost use Rattle.limits.specs.Limits.{most_qubits};
 ghost use Rattle.clifford.specs.Tableau.{start};

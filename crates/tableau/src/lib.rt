@@ -1,5 +1,7 @@
 // The tableau as a struct by value. Each operation takes a whole tableau and gives back a whole tableau: it lends the words to the functions that do
 // the work.
+#![tactic(auto)]
+
 ghost use Rattle.std.specs.Prelude.{◌≡◌, ◌≤◌, ◌<◌};
 ghost use Rattle.limits.specs.Limits.{most_qubits};
 ghost use Rattle.clifford.specs.Gates.{Fits};

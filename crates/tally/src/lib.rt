@@ -1,5 +1,7 @@
 // The tally of a run, stepped at each measurement (document 01, "The operations"): `next` by value, and `step_lent` in a struct that is lent by `&mut`;
 // `stepped_numbers` serves whoever has numbers and no reference.
+#![tactic(auto)]
+
 ghost use Rattle.std.specs.Prelude.{◌≡◌, ◌+◌, ◌<◌};
 ghost use Rattle.limits.specs.Limits.{most_operations};
 ghost use Rattle.tally.specs.Tally.{one_if};

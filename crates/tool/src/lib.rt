@@ -1,5 +1,7 @@
 // What the programs behind `./senghovai` share: opening a file that a word names, reading a circuit or the tail of an archive, saying a refusal, and writing a
 // record to a file. Files are read whole or by their tail into buffers of fixed size, so that an archive may have any size.
+#![tactic(auto)]
+
 ghost use Rattle.std.specs.Prelude.{◌≡◌, ◌+◌, ◌*◌, length};
 ghost use Rattle.limits.specs.Limits.{most_qubits, most_operations};
 ghost use Rattle.io.specs.Counts.{IsPrefixLen};

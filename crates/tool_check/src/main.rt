@@ -1,4 +1,6 @@
 // Checks the circuit in the file that the first word names, and prints its number of qubits and of operations, or the refusal.
+#![tactic(auto)]
+
 use checking::Checked;
 
 fn check(text: &[u8]) {

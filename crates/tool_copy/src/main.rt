@@ -1,4 +1,6 @@
 // Copies the last record of the archive that the first word names into the file that the second names, or prints the refusal and changes no file.
+#![tactic(auto)]
+
 use answers::Written;
 
 fn copy(bytes: &[u8]) {

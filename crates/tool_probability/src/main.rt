@@ -1,5 +1,7 @@
 // Tells how likely each readout of the file that the second word names is, for the circuit of the first: a line for each, in order. The circuit is checked
 // once. The file may have any length: it is read in pieces, and of a line no more is kept than one character beyond the most measurements.
+#![tactic(auto)]
+
 use checking::Checked;
 use probability::Chance;
 

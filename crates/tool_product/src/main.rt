@@ -1,4 +1,6 @@
 // Multiplies the two rows that the words are, and prints the product, or the refusal.
+#![tactic(auto)]
+
 use answers::Written;
 
 fn multiply(first: &[u8], second: &[u8]) {

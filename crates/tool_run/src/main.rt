@@ -1,5 +1,7 @@
 // Runs the circuit of the first file named with the coins of the second, appends the record to the archive that the third names, and prints the outcomes and
 // the rows; or prints the refusal and changes no file. A crash in mid-append leaves at worst a torn tail behind the records that were there.
+#![tactic(auto)]
+
 use answers::Written;
 
 // Appends the record, which the sheet's first bytes are, to the archive.

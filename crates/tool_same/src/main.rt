@@ -1,4 +1,6 @@
 // Compares the last records of the two archives that the words name: prints whether they describe the same state, or which of the two was refused and why.
+#![tactic(auto)]
+
 use answers::Refusal;
 use archive::Same;
 

@@ -1,4 +1,6 @@
 // Prints the last record of the archive that the first word names: its outcome characters on one line, then its rows, a line each; or the refusal.
+#![tactic(auto)]
+
 ghost use Rattle.std.specs.Prelude.{◌≤◌};
 
 // The bytes in lines of that many each; a rest that fills no line is left out.

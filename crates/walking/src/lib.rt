@@ -1,5 +1,7 @@
 // The walk over the operation lines of a text on lent coins: they are read and run one by one over the packed tableau, each outcome a character in a
 // lent array. A line that is refused, or finds no coin, stops the walk.
+#![tactic(auto)]
+
 ghost use Rattle.std.specs.Prelude.{◌≡◌, ◌≤◌, ◌<◌, length, drop};
 ghost use Rattle.clifford.specs.Run.{Valid};
 ghost use Rattle.quick_lines.specs.Parts.Coded.{following, op_in, name_in};

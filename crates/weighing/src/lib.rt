@@ -1,5 +1,7 @@
 // The walk over the operation lines of a text with a stated readout: they are read and run one by one over the packed tableau, and each measurement is held
 // against its character, whose lowest bit serves as the coin. A line that is refused, or a fixed measurement that disagrees, stops the walk.
+#![tactic(auto)]
+
 ghost use Rattle.std.specs.Prelude.{◌≡◌, ◌≤◌, ◌<◌, length};
 ghost use Rattle.limits.specs.Limits.{most_qubits};
 ghost use Rattle.clifford.specs.Run.{Valid};

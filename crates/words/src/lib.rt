@@ -1,4 +1,6 @@
 // Whole words from a single bit, for the functions that work on all rows of a word at once.
+#![tactic(auto)]
+
 ghost use Rattle.std.specs.Prelude.{cond, ◌≡◌, ℕ, ◌<◌};
 ghost use Rattle.words.specs.Bit.{bit};
 

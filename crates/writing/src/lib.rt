@@ -1,6 +1,8 @@
 // The run record, written into a lent buffer: the outcome characters, the 2n rows, and the trailer that points back. Each part
 // writes its text at a position and leaves the rest of the buffer as it was. The bits of the rows are first put into bytes, so that
 // letters are made sixteen at a time in one register.
+#![tactic(auto)]
+
 ghost use Rattle.std.specs.Prelude.{◌≡◌, [], ◌∷◌, ◌+◌, ◌*◌, ◌≤◌, ◌<◌, length};
 ghost use Rattle.limits.specs.Limits.{most_qubits, most_operations};
 ghost use Rattle.answers.specs.Verdict.{over};
