@@ -1,4 +1,3 @@
--- `words::splat` meets its contract: a digit 0 or 1 times 64 ones has the digit in each bit. Assumes nothing.
 use mathlib.Core.Path.{◌≡◌, ap, ◌∙◌}
 use Prim.Native.Nat.{ℕ, zero, suc, ◌-◌, ◌*◌, ◌/◌, ◌%◌, ◌^◌, ◌<◌}
 use native.Mathlib.Nat.{mod-lt, zero-lt-suc, zero-mul, one-mul}
@@ -8,8 +7,7 @@ use lib.Dec.{eqb}
 use Rattle.words.specs.Bit.{bit}
 use Rattle.words.proofs.BitLaws.{bit-ones, bit-zero}
 use borrow.Author.Rules.{rules}
-use Rattle.words.proofs.splat.Statement.{statement}
-use Rattle.words.proofs.splat.Tie as tie
+use Rattle.words.proofs.splat.Goals as goal
 
 spread_digit : (d k : ℕ) → d < 2 → k < 64 → bit k (d * (2 ^ 64 - 1)) ≡ eqb d 1
 spread_digit zero k l h = ap (bit k) (zero-mul (2 ^ 64 - 1)) ∙ bit-zero k
@@ -20,14 +18,8 @@ spread : (j w k : ℕ) → k < 64 → bit k (bit_and (w / 2 ^ j) 1 * (2 ^ 64 - 1
 unfolding bit
 spread j w k h = ap (λ (m : ℕ). bit k (m * (2 ^ 64 - 1))) (and_mask (w / 2 ^ j) 1) ∙ spread_digit (w / 2 ^ j % 2) k (mod-lt (w / 2 ^ j) (zero-lt-suc 1)) h
 
-shr-result : tie.Need-overflow-shr-result
-shr-result c = search rules
+pub overflow_mul-result : goal.overflow_mul-result
+overflow_mul-result c = omega (arith, and_le_r (c.args.w / 2 ^ c.args.j) 1)
 
-mul-result : tie.Need-overflow-mul-result
-mul-result c = omega (arith, and_le_r (c.args.w / 2 ^ c.args.j) 1)
-
-returns : tie.Need-returns
+pub returns : goal.returns
 returns c k l = spread c.args.j c.args.w k l
-
-pub splat_spec : {M : Type 1} → statement M
-splat_spec = tie.close (tie.spec shr-result mul-result returns)

@@ -1,0 +1,12 @@
+use borrow.Author.Rules.{rules}
+use native.Mathlib.Omega.{arith}
+use mathlib.Core.Path.{sym, ◌∙◌}
+use lib.ListN.{drop}
+use Rattle.circuit.proofs.Digits.{digit_at, no_number, Reading, number_zero, begun, more, stopped, ended, below_thousand}
+use Rattle.circuit.proofs.numbers.number_at.Given as goal
+
+abbrev pub invariant-loop-left : goal.invariant-loop-left
+invariant-loop-left l = Reading l.s l.at l.value l.next l.left
+
+abbrev pub decreases-loop-left : goal.decreases-loop-left
+decreases-loop-left l = l.left

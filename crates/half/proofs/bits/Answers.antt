@@ -1,0 +1,6 @@
+use borrow.Author.Rules.{rules}
+use Rattle.half.proofs.Laws.{is_number}
+use Rattle.half.proofs.bits.Goals as goal
+
+pub float_to_bits-result : goal.float_to_bits-result
+float_to_bits-result c = is_number c.args.l.k c.args.l.probability c.requires.value

@@ -1,0 +1,5 @@
+use borrow.Author.Rules.{rules}
+use Rattle.tally.proofs.next.Goals as goal
+
+pub returns : goal.returns
+returns c = λ i. record { measured = c.more.ensures i; random = c.more-2.ensures i; taken = c.more-3.ensures i }
