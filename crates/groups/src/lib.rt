@@ -11,7 +11,7 @@ ghost use Rattle.groups.specs.Parts.Rows.{row_bit, All};
 
 use packing::Words;
 
-#[derive(Drop)]
+#[derive(Clone, Copy)]
 pub struct Group {
     pub a: u64,
     pub b: u64,

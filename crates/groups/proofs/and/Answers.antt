@@ -1,19 +1,14 @@
--- `groups::and` meets its contract. Assumes nothing.
 use mathlib.Core.Path.{◌∙◌}
 use Prim.Native.Nat.{◌/◌, ◌%◌}
 use lib.Bits.{bit_and}
 use Rattle.words.proofs.BitLaws.{bit-and}
 use Rattle.packing.proofs.Groups.{bit-each}
 use Rattle.groups.specs.Parts.Rows.{words_of}
-use Rattle.groups.proofs.and.Statement.{statement}
-use Rattle.groups.proofs.and.Tie as tie
+use Rattle.groups.proofs.and.Goals as goal
 
-returns : tie.Need-returns
+pub returns : goal.returns
 returns c s l =
-    let a = c.before.before.before.before.before.before.before.before.args in
+    let a = c.args in
     let g = words_of a.g in
     let h = words_of a.h in
     bit-each (λ t. bit_and (g t) (h t)) s l ∙ bit-and (s % 64) (g (s / 64)) (h (s / 64))
-
-pub and_spec : {M : Type 1} → statement M
-and_spec = tie.close (tie.spec returns)

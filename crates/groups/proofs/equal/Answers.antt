@@ -1,4 +1,3 @@
--- `groups::equal` meets its contract: words are equal exactly where all their bits are. Assumes nothing.
 use mathlib.Core.Path.{◌≡◌, sym, ap, ap₂, ◌∙◌}
 use mathlib.Core.Bool.{Bool, true, ◌&&◌}
 use borrow.Author.Rules.{rules}
@@ -12,8 +11,7 @@ use Rattle.packing.specs.View.{row_count, bit_in}
 use Rattle.packing.proofs.Groups.{each_of, word_of}
 use Rattle.packing.proofs.Determined.{same_bits}
 use Rattle.groups.specs.Parts.Rows.{words_of}
-use Rattle.groups.proofs.equal.Statement.{statement}
-use Rattle.groups.proofs.equal.Tie as tie
+use Rattle.groups.proofs.equal.Goals as goal
 
 module _ (g h : ℕ → ℕ) where
   abbrev Bits : Type 0
@@ -42,9 +40,9 @@ module _ (g h : ℕ → ℕ) where
               let q : (64 * k + b) % 64 ≡ b = omega arith in
               sym (ap₂ (λ (i j : ℕ). bit i (g j)) q p) ∙ e (64 * k + b) (omega arith) ∙ ap₂ (λ (i j : ℕ). bit i (h j)) q p
 
-returns : tie.Need-returns
+pub returns : goal.returns
 returns c =
-    let a = c.before.before.before.before.before.before.before.before.args in
+    let a = c.args in
     let ga : a.g.a < 2 ^ 64 = search rules in
     let gb : a.g.b < 2 ^ 64 = search rules in
     let gc : a.g.c < 2 ^ 64 = search rules in
@@ -56,6 +54,3 @@ returns c =
       words_bits (words_of a.g) (words_of a.h),
       bits_words (words_of a.g) (words_of a.h) (each_of (λ k. words_of a.g k < 2 ^ 64) ga gb gc gd) (each_of (λ k. words_of a.h k < 2 ^ 64) ha hb hc hd),
     )
-
-pub equal_spec : {M : Type 1} → statement M
-equal_spec = tie.close (tie.spec returns)

@@ -1,4 +1,3 @@
--- `groups::same` meets its contract. Assumes nothing.
 use mathlib.Core.Path.{ap₂, ◌∙◌}
 use Prim.Native.Nat.{◌-◌, ◌/◌, ◌%◌, ◌^◌}
 use native.Mathlib.Nat.{mod-lt, zero-lt-suc}
@@ -7,16 +6,12 @@ use Rattle.words.proofs.BitLaws.{bit-xor, bit-ones}
 use Rattle.pauli.specs.Letters.{◌⊕◌}
 use Rattle.packing.proofs.Groups.{bit-each}
 use Rattle.groups.specs.Parts.Rows.{words_of}
-use Rattle.groups.proofs.same.Statement.{statement}
-use Rattle.groups.proofs.same.Tie as tie
+use Rattle.groups.proofs.same.Goals as goal
 
-returns : tie.Need-returns
+pub returns : goal.returns
 returns c s l =
-    let a = c.before.before.before.before.before.before.before.before.args in
+    let a = c.args in
     let g = words_of a.g in
     let h = words_of a.h in
     bit-each (λ t. bit_xor (2 ^ 64 - 1) (bit_xor (g t) (h t))) s l ∙ bit-xor (s % 64) (2 ^ 64 - 1) (bit_xor (g (s / 64)) (h (s / 64)))
     ∙ ap₂ ◌⊕◌ (bit-ones 64 (s % 64) (mod-lt s (zero-lt-suc 63))) (bit-xor (s % 64) (g (s / 64)) (h (s / 64)))
-
-pub same_spec : {M : Type 1} → statement M
-same_spec = tie.close (tie.spec returns)

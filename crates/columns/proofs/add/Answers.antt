@@ -1,0 +1,9 @@
+use mathlib.Core.Path.{ap₂, ◌∙◌}
+use Rattle.pauli.specs.Letters.{◌⊕◌}
+use Rattle.columns.proofs.Steps.{changed_same}
+use borrow.Author.Rules.{rules}
+use Rattle.columns.proofs.add.Goals as goal
+
+pub returns : goal.returns
+returns c =
+    changed_same _ c.store.ensures (λ s l. c.xor.ensures s l ∙ ap₂ ◌⊕◌ (c.load-old.ensures s l) (c.load-more.ensures s l))

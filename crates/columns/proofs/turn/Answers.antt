@@ -1,0 +1,8 @@
+use mathlib.Core.Path.{ap₂, refl, ◌∙◌}
+use Rattle.pauli.specs.Letters.{◌⊕◌}
+use Rattle.columns.proofs.Steps.{changed_same}
+use borrow.Author.Rules.{rules}
+use Rattle.columns.proofs.turn.Goals as goal
+
+pub returns : goal.returns
+returns c = changed_same _ c.store.ensures (λ s l. c.xor.ensures s l ∙ ap₂ ◌⊕◌ (c.load-signs.ensures s l) refl)

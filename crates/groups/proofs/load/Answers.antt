@@ -1,0 +1,6 @@
+use Rattle.packing.proofs.Groups.{bit-loads}
+use borrow.Author.Rules.{rules}
+use Rattle.groups.proofs.load.Goals as goal
+
+pub returns : goal.returns
+returns c s l = let a = c.args in bit-loads a.w.now a.o s l

@@ -1,0 +1,55 @@
+use mathlib.Core.Path.{◌≡◌, refl, ap, ◌∙◌}
+use mathlib.Core.Bool.{Bool}
+use mathlib.Core.Logic.{⊎_elim}
+use Prim.Native.Nat.{ℕ, ◌+◌, ◌-◌, ◌*◌, ◌%◌, ◌≤◌, ◌<◌}
+use native.Mathlib.Omega.{arith}
+use Rattle.limits.specs.Limits.{most_qubits}
+use Rattle.words.proofs.BitLaws.{bit-zero}
+use Rattle.packing.specs.View.{letter_at}
+use Rattle.groups.specs.Parts.Rows.{row_bit}
+use Rattle.multiply_rows.specs.declared.Powers.{Powers}
+use Rattle.multiply_rows.proofs.Loop.{Multiplying, multiply_none, multiply_more, multiply_clear, multiplying_same, letter_of, sign_of, none_there, multiplied}
+use borrow.Author.Rules.{rules}
+use Rattle.multiply_rows.proofs.multiply.Goals as goal
+
+pub loop-j-init : goal.loop-j-init
+loop-j-init c =
+    let e = c in
+    (search rules, multiply_none _ _ _ e.args.w.now e.requires.0 _ _ (λ s l. c.all-none.ensures s l ∙ bit-zero (s % 64)) (λ s l. c.all-none.ensures s l ∙ bit-zero (s % 64)))
+
+pub loop-j-preserved : goal.loop-j-preserved
+loop-j-preserved c =
+    let e = c in
+    let v = c.loop-j in
+    let u = c.if-x-z-eq1 in
+    let turn = c.loop-j-test.true in
+    let below : v.j < most_qubits = omega (arith, e.requires.1, turn) in
+    let m = row_bit e.args.mask in
+    let w₀ = e.args.w.now in
+    let hi = row_bit v.counts.hi in
+    let lo = row_bit v.counts.lo in (
+      omega (arith, turn),
+      ⊎_elim
+          (λ d. multiplying_same
+          (multiply_more _ m _ w₀ v.j v.w hi lo v.invariant.1 below (row_bit e.args.keep) _ _ e.requires.4
+          (letter_of e.args.g e.args.q e.requires.2 e.requires.3 m w₀ v.j v.w hi lo v.invariant.1 below d.1.result d.3.result _ _ d.1.ensures d.3.ensures d.2.ensures d.4.ensures)
+          d.6.ensures (λ s l. refl))
+          d.7 (ap (λ (r : Powers). row_bit r.hi) d.8) (ap (λ (r : Powers). row_bit r.lo) d.8))
+          (λ d. multiplying_same
+          (multiply_clear e.args.g e.args.q e.requires.2 e.requires.3 m w₀ v.j v.w hi lo v.invariant.1 below
+          (none_there e.args.g e.args.q e.requires.2 e.requires.3 m w₀ v.j v.w hi lo v.invariant.1 below d.0.left) d.2.ensures)
+          d.3 (ap (λ (r : Powers). row_bit r.hi) d.4) (ap (λ (r : Powers). row_bit r.lo) d.4))
+          u.branch,
+    )
+
+pub returns : goal.returns
+returns c =
+    let e = c in
+    let v = c.loop-j in
+    let end : v.j ≡ e.args.n = omega (arith, v.invariant.0, c.loop-j-test.false) in
+    let m = row_bit e.args.mask in
+    let w₀ = e.args.w.now in
+    let hi = row_bit v.counts.hi in
+    let lo = row_bit v.counts.lo in
+    multiplied _ m _ w₀ v.w _ e.args.n hi lo e.requires.1 (rw end at v.invariant.1) (row_bit e.args.keep) _ _ e.requires.4
+    (sign_of e.args.g e.args.q e.requires.2 e.requires.3 m w₀ v.j v.w hi lo v.invariant.1 c.splat-2.result _ c.splat-2.ensures c.all-minus.ensures (omega (arith, v.invariant.0, e.requires.1))) (λ s l. refl) c.sign.ensures
