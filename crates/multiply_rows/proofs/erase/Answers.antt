@@ -3,4 +3,4 @@ use borrow.Author.Rules.{rules}
 use Rattle.multiply_rows.proofs.erase.Goals as goal
 
 pub returns : goal.returns
-returns c = let e = c in erased_by e.args.w.now e.requires.0 e.args.j e.requires.1 e.args.g e.requires.2 e.args.own_val
+returns c = let e = c in erased_by e.args.w.now e.requires.0 e.args.j e.requires.1 e.args.g e.requires.2 e.args.own

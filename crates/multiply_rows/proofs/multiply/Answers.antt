@@ -1,6 +1,5 @@
 use mathlib.Core.Path.{◌≡◌, refl, ap, ◌∙◌}
 use mathlib.Core.Bool.{Bool}
-use mathlib.Core.Logic.{⊎_elim}
 use Prim.Native.Nat.{ℕ, ◌+◌, ◌-◌, ◌*◌, ◌%◌, ◌≤◌, ◌<◌}
 use native.Mathlib.Omega.{arith}
 use Rattle.limits.specs.Limits.{most_qubits}
@@ -11,6 +10,7 @@ use Rattle.multiply_rows.specs.declared.Powers.{Powers}
 use Rattle.multiply_rows.proofs.Loop.{Multiplying, multiply_none, multiply_more, multiply_clear, multiplying_same, letter_of, sign_of, none_there, multiplied}
 use borrow.Author.Rules.{rules}
 use Rattle.multiply_rows.proofs.multiply.Goals as goal
+use Rattle.multiply_rows.proofs.multiply.Goals.{then-x-z-eq1, else-x-z-eq1}
 
 pub loop-j-init : goal.loop-j-init
 loop-j-init c =
@@ -29,17 +29,19 @@ loop-j-preserved c =
     let hi = row_bit v.counts.hi in
     let lo = row_bit v.counts.lo in (
       omega (arith, turn),
-      ⊎_elim
-          (λ d. multiplying_same
+      elim u.branch [
+        then-x-z-eq1 d ↦
+          multiplying_same
           (multiply_more _ m _ w₀ v.j v.w hi lo v.invariant.1 below (row_bit e.args.keep) _ _ e.requires.4
-          (letter_of e.args.g e.args.q e.requires.2 e.requires.3 m w₀ v.j v.w hi lo v.invariant.1 below d.1.result d.3.result _ _ d.1.ensures d.3.ensures d.2.ensures d.4.ensures)
-          d.6.ensures (λ s l. refl))
-          d.7 (ap (λ (r : Powers). row_bit r.hi) d.8) (ap (λ (r : Powers). row_bit r.lo) d.8))
-          (λ d. multiplying_same
+          (letter_of e.args.g e.args.q e.requires.2 e.requires.3 m w₀ v.j v.w hi lo v.invariant.1 below d.splat.result d.splat-then-x-z-eq1.result _ _ d.splat.ensures d.splat-then-x-z-eq1.ensures d.all-px.ensures d.all-pz.ensures)
+          d.times-counts.ensures (λ s l. refl))
+          d.w-is (ap (λ (r : Powers). row_bit r.hi) d.counts-is) (ap (λ (r : Powers). row_bit r.lo) d.counts-is)
+      | else-x-z-eq1 d ↦
+          multiplying_same
           (multiply_clear e.args.g e.args.q e.requires.2 e.requires.3 m w₀ v.j v.w hi lo v.invariant.1 below
-          (none_there e.args.g e.args.q e.requires.2 e.requires.3 m w₀ v.j v.w hi lo v.invariant.1 below d.0.left) d.2.ensures)
-          d.3 (ap (λ (r : Powers). row_bit r.hi) d.4) (ap (λ (r : Powers). row_bit r.lo) d.4))
-          u.branch,
+          (none_there e.args.g e.args.q e.requires.2 e.requires.3 m w₀ v.j v.w hi lo v.invariant.1 below d.if-x-z-eq1.false) d.erase.ensures)
+          d.w-is (ap (λ (r : Powers). row_bit r.hi) d.counts-is) (ap (λ (r : Powers). row_bit r.lo) d.counts-is)
+      ],
     )
 
 pub returns : goal.returns
