@@ -130,7 +130,7 @@ module _ (w : List ℕ) (sel : ℕ → ℕ) (sl : (sel 0 < 2 ^ 64) × (sel 1 < 2
                 (ap (λ (k : ℕ). power_of (3 * k)) eb ∙ three_count (odd_bits (bit_xor (x 0) (x 1)) && bit 63 (p 1))
                 ∙ ap₂ (λ (s t : Bool). three (s && t)) (odd_xor (x 0) (x 1) ∙ sym (odd_both hx)) (sym (hp.row (most_qubits - 1) (omega arith)))));
             few = omega (arith, a.few);
-            twos_word = xor_lt 64 twos _ a.twos-word (xor_lt 64 _ (v 1) (xor_lt 64 _ (u 1) (xor_lt 64 (u 0) (v 0) ub.0 ub.1) vb.0) vb.1);
+            twos_word = xor_lt 64 twos _ a.twos_word (xor_lt 64 _ (v 1) (xor_lt 64 _ (u 1) (xor_lt 64 (u 0) (v 0) ub.0 ub.1) vb.0) vb.1);
             words = (new_below 0 a.words.0 x_below.0, new_below 1 a.words.1 x_below.1);
           }
 
@@ -139,7 +139,7 @@ module _ (w : List ℕ) (sel : ℕ → ℕ) (sl : (sel 0 < 2 ^ 64) × (sel 1 < 2
       sums = passed_over (x_bit w sel) (z_bit w sel) (s_bit w sel) most_qubits _ _ _ j a.sums
           (λ r l. (has_x w sel j).row r l ∙ each_word (λ g. bit (r % 64) (x g) ≡ false) (no_or (x 0) (x 1) (r % 64) e).0 (no_or (x 0) (x 1) (r % 64) e).1 r l);
       few = omega (arith, a.few);
-      twos_word = a.twos-word;
+      twos_word = a.twos_word;
       words = a.words;
     }
 
@@ -147,7 +147,7 @@ module _ (w : List ℕ) (sel : ℕ → ℕ) (sl : (sel 0 < 2 ^ 64) × (sel 1 < 2
     unfolding Passed all_powers
     passing_all =
         power_add (3 * columns + 3 * (ones (h 0) + ones (h 1))) (2 * ones twos)
-        ∙ ap₂ ◌⊞◌ (power_add (3 * columns) (3 * (ones (h 0) + ones (h 1)))) (twos_odd 64 twos a.twos-word)
+        ∙ ap₂ ◌⊞◌ (power_add (3 * columns) (3 * (ones (h 0) + ones (h 1)))) (twos_odd 64 twos a.twos_word)
         ∙ turn (power_of (3 * columns)) (power_of (3 * (ones (h 0) + ones (h 1)))) (sign (odd_bits twos))
         ∙ ap (λ (t : Power). t ⊞ (sign (odd_bits twos) ⊞ power_of (3 * columns)))
         (ap power_of (mul-add 3 (ones (h 0)) (ones (h 1))) ∙ power_add (3 * ones (h 0)) (3 * ones (h 1)) ∙ ap₂ ◌⊞◌ (threes 64 (h 0) a.words.0) (threes 64 (h 1) a.words.1)

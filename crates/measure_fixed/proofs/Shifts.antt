@@ -1,5 +1,4 @@
 -- The bits of shifted words, and of a word that has the parities of another. Assumes nothing.
-use denote.Ref.{shr_at}
 use mathlib.Core.Path.{◌≡◌, sym, ap, ◌∙◌}
 use mathlib.Core.Bool.{Bool, false}
 use mathlib.Core.List.{[], ◌∷◌}

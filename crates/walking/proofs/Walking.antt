@@ -110,7 +110,7 @@ module _ (text : List ℕ) (body n : ℕ) (coins : List ℕ) where
     walk_dry l g a =
         let r = rest (lines_of n body text) a in
         let q = next_at n w.room line text at r.more r.left_is g.op g.next l g.stands in
-        ap (λ (o : List Op). run n 2 o (begin n coins)) (sym r.ops-are) ∙ w.so_far r.more ∙ ap (λ (o : List Op). run n line o w.state) q.ops_is
+        ap (λ (o : List Op). run n 2 o (begin n coins)) (sym r.ops_are) ∙ w.so_far r.more ∙ ap (λ (o : List Op). run n line o w.state) q.ops_is
         ∙ ap (λ (v : Verdict State). then v (run n (suc line) q.more)) (g.stops line w.state w.view)
 
     pub walk_refused : at < length text → (at < length text → (room line : ℕ) (ops : List Op) → operations n room line (drop at text) ≡ accepted ops → ⊥) → Stuck text body n coins line

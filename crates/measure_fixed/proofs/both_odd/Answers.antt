@@ -6,7 +6,7 @@ use borrow.Author.Rules.{rules}
 use Rattle.measure_fixed.proofs.both_odd.Goals as goal
 
 pub returns-then-p-eq1 : goal.returns-then-p-eq1
-returns-then-p-eq1 c = (omega (arith, c.parities.type-inv), both_set (odd_number (λ i. bit i c.args.x) 64) c.parities.result c.args.p (omega (arith, c.parities.type-inv)) (c.parities.ensures 63 (omega arith)) c.if-p-eq1.true)
+returns-then-p-eq1 c = (omega (arith, c.parities.type_inv), both_set (odd_number (λ i. bit i c.args.x) 64) c.parities.result c.args.p (omega (arith, c.parities.type_inv)) (c.parities.ensures 63 (omega arith)) c.if-p-eq1.true)
 
 pub returns-else-p-eq1 : goal.returns-else-p-eq1
 returns-else-p-eq1 c = (omega arith, both_clear (odd_number (λ i. bit i c.args.x) 64) c.args.p c.ranges.p.fits c.if-p-eq1.false)

@@ -1,6 +1,5 @@
 use borrow.Author.Rules.{rules}
 use mathlib.Core.Path.{◌≡◌, refl, subst}
-use mathlib.Core.Logic.{⊎_elim}
 use Prim.Native.Nat.{◌≤◌, ◌-◌}
 use native.Mathlib.Omega.{arith}
 use lib.Count.{ones, ones-le}
@@ -9,6 +8,7 @@ use Rattle.measure_fixed.specs.Parts.Column.{pair}
 use Rattle.measure_fixed.proofs.Passing.{Passing, passing_same}
 use Rattle.measure_fixed.proofs.First.{first_none, first_more, first_over, first_all}
 use Rattle.measure_fixed.proofs.first_powers.Goals as goal
+use Rattle.measure_fixed.proofs.first_powers.Goals.{then-x0-ne0, else-x0-ne0}
 use Rattle.measure_fixed.proofs.first_powers.Goals.{After-loop-j}
 
 pub loop-j-init : goal.loop-j-init
@@ -24,19 +24,19 @@ loop-j-preserved c =
     let l = c in
     let b = l in
     let v = l.loop-j in
-    let more = first_more b.args.w.now b.args.sel b.ranges.sel.fits v.twos-1 v.h0 v.columns v.j v.invariant.1 in
-    let over = first_over b.args.w.now b.args.sel b.ranges.sel.fits v.twos-1 v.h0 v.columns v.j v.invariant.1 in (
+    let more = first_more b.args.w.now b.args.sel b.ranges.sel.fits v.twos v.h0 v.columns v.j v.invariant.1 in
+    let over = first_over b.args.w.now b.args.sel b.ranges.sel.fits v.twos v.h0 v.columns v.j v.invariant.1 in (
       search rules,
-      ⊎_elim
-          (λ w. passing_same (more w.2.result w.3.result w.3.ensures.0 w.2.ensures w.3.ensures.1) w.4 w.5 refl w.6)
-          (λ w. passing_same (over w.0.left) w.1 w.2 refl w.3)
-          c.if-x0-ne0.branch,
+      elim c.if-x0-ne0.branch [
+        | then-x0-ne0 w ↦ passing_same (more w.parities-p0.result w.both_odd-columns.result w.both_odd-columns.ensures.0 w.parities-p0.ensures w.both_odd-columns.ensures.1) w.twos-is w.h0-is refl w.columns-is
+        | else-x0-ne0 w ↦ passing_same (over w.if-x0-ne0.false) w.twos-is w.h0-is refl w.columns-is
+      ],
     )
 
 small : (c : After-loop-j) → (c.loop-j.columns ≤ most_qubits) × (ones c.loop-j.h0 ≤ 64) × (ones c.loop-j.twos ≤ 64)
 small c =
     let a = c.loop-j.invariant.1 in
-    (omega arith, ones-le 64 _ a.words.0, ones-le 64 _ a.twos-word)
+    (omega arith, ones-le 64 _ a.words.0, ones-le 64 _ a.twos_word)
 
 pub overflow_mul-result : goal.overflow_mul-result
 overflow_mul-result c = omega (arith, small (goal.at.overflow_mul-result c).After-loop-j)
@@ -65,5 +65,5 @@ returns c =
     let b = l in
     let v = l.loop-j in
     let e : v.j ≡ b.args.n = omega arith in
-    first_all b.args.w.now b.args.sel b.ranges.sel.fits v.twos-1 v.h0 v.columns b.args.n
-    (subst (Passing b.args.w.now (pair b.args.sel 0) v.twos-1 (pair v.h0 0) v.columns) e v.invariant.1)
+    first_all b.args.w.now b.args.sel b.ranges.sel.fits v.twos v.h0 v.columns b.args.n
+    (subst (Passing b.args.w.now (pair b.args.sel 0) v.twos (pair v.h0 0) v.columns) e v.invariant.1)

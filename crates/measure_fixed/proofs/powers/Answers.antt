@@ -1,6 +1,5 @@
 use borrow.Author.Rules.{rules}
 use mathlib.Core.Path.{◌≡◌, subst}
-use mathlib.Core.Logic.{⊎_elim}
 use Prim.Native.Nat.{◌≤◌, ◌-◌}
 use native.Mathlib.Omega.{arith}
 use lib.Count.{ones, ones-le}
@@ -8,6 +7,7 @@ use Rattle.limits.specs.Limits.{most_qubits}
 use Rattle.measure_fixed.specs.Parts.Column.{pair}
 use Rattle.measure_fixed.proofs.Passing.{Passing, passing_none, passing_more, passing_over, passing_same, passing_all}
 use Rattle.measure_fixed.proofs.powers.Goals as goal
+use Rattle.measure_fixed.proofs.powers.Goals.{then-x0-x1-ne0, else-x0-x1-ne0}
 use Rattle.measure_fixed.proofs.powers.Goals.{After-loop-j}
 
 pub loop-j-init : goal.loop-j-init
@@ -23,19 +23,20 @@ loop-j-preserved c =
     let l = c in
     let b = l in
     let v = l.loop-j in
-    let more = passing_more b.args.w.now (pair b.args.sel b.args.tel) (b.ranges.sel.fits, b.ranges.tel.fits) v.twos-1 (pair v.h0 v.h1) v.columns v.j v.invariant.1 in
-    let over = passing_over b.args.w.now (pair b.args.sel b.args.tel) (b.ranges.sel.fits, b.ranges.tel.fits) v.twos-1 (pair v.h0 v.h1) v.columns v.j v.invariant.1 in (
+    let more = passing_more b.args.w.now (pair b.args.sel b.args.tel) (b.ranges.sel.fits, b.ranges.tel.fits) v.twos (pair v.h0 v.h1) v.columns v.j v.invariant.1 in
+    let over = passing_over b.args.w.now (pair b.args.sel b.args.tel) (b.ranges.sel.fits, b.ranges.tel.fits) v.twos (pair v.h0 v.h1) v.columns v.j v.invariant.1 in (
       search rules,
-      ⊎_elim
-          (λ w. passing_same (more (pair w.3.result w.4.result) w.5.result w.6.result w.6.ensures.0 w.3.ensures w.4.ensures w.5.ensures w.6.ensures.1) w.7 w.8 w.9 w.10)
-          (λ w. passing_same (over w.0.left) w.1 w.2 w.3 w.4)
-          c.if-x0-x1-ne0.branch,
+      elim c.if-x0-x1-ne0.branch [
+        | then-x0-x1-ne0 w ↦
+            passing_same (more (pair w.parities-p0.result w.parities.result) w.splat.result w.both_odd-columns.result w.both_odd-columns.ensures.0 w.parities-p0.ensures w.parities.ensures w.splat.ensures w.both_odd-columns.ensures.1) w.twos-is w.h0-is w.h1-is w.columns-is
+        | else-x0-x1-ne0 w ↦ passing_same (over w.if-x0-x1-ne0.false) w.twos-is w.h0-is w.h1-is w.columns-is
+      ],
     )
 
 small : (c : After-loop-j) → (c.loop-j.columns ≤ most_qubits) × (ones c.loop-j.h0 ≤ 64) × (ones c.loop-j.h1 ≤ 64) × (ones c.loop-j.twos ≤ 64)
 small c =
     let a = c.loop-j.invariant.1 in
-    (omega arith, ones-le 64 _ a.words.0, ones-le 64 _ a.words.1, ones-le 64 _ a.twos-word)
+    (omega arith, ones-le 64 _ a.words.0, ones-le 64 _ a.words.1, ones-le 64 _ a.twos_word)
 
 pub overflow_mul-result : goal.overflow_mul-result
 overflow_mul-result c = omega (arith, small (goal.at.overflow_mul-result c).After-loop-j)
@@ -70,5 +71,5 @@ returns c =
     let b = l in
     let v = l.loop-j in
     let e : v.j ≡ b.args.n = omega arith in
-    passing_all b.args.w.now (pair b.args.sel b.args.tel) (b.ranges.sel.fits, b.ranges.tel.fits) v.twos-1 (pair v.h0 v.h1) v.columns b.args.n
-    (subst (Passing b.args.w.now (pair b.args.sel b.args.tel) v.twos-1 (pair v.h0 v.h1) v.columns) e v.invariant.1)
+    passing_all b.args.w.now (pair b.args.sel b.args.tel) (b.ranges.sel.fits, b.ranges.tel.fits) v.twos (pair v.h0 v.h1) v.columns b.args.n
+    (subst (Passing b.args.w.now (pair b.args.sel b.args.tel) v.twos (pair v.h0 v.h1) v.columns) e v.invariant.1)
