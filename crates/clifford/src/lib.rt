@@ -4,7 +4,7 @@
 ghost use Rattle.std.specs.Prelude.{◌≡◌};
 ghost use Rattle.clifford.specs.Named.{one_letter};
 
-#[derive(Drop)]
+#[derive(Clone, Copy)]
 pub enum One {
     H,
     S,
@@ -14,26 +14,26 @@ pub enum One {
 }
 
 // The first qubit of Cx is its control.
-#[derive(Drop)]
+#[derive(Clone, Copy)]
 pub enum Two {
     Cx,
     Cz,
 }
 
-#[derive(Drop)]
+#[derive(Clone, Copy)]
 pub enum Gate {
     One(One, usize),
     Two(Two, usize, usize),
 }
 
 // What becomes of a qubit once it is measured: M keeps it, MR resets it.
-#[derive(Drop)]
+#[derive(Clone, Copy)]
 pub enum After {
     Keep,
     Reset,
 }
 
-#[derive(Drop)]
+#[derive(Clone, Copy)]
 pub enum Op {
     Gate(Gate),
     Measure(After, usize),
