@@ -8,10 +8,9 @@ use lib.Dec.{eqb}
 use mathlib.Core.List.{[], ◌∷◌}
 use mathlib.Core.Bool.{Bool, true, false, cond, ◌||◌}
 use mathlib.Core.Path.{◌≡◌, refl}
-use Rattle.read_rows.proofs.load.has_z.Statement.{statement}
-use Rattle.read_rows.proofs.load.has_z.Tie as tie
+use Rattle.read_rows.proofs.load.has_z.Goals as goal
 
-returns : tie.Need-returns
+pub returns : goal.returns
 returns c = at_88 c.args.b (eqb c.args.b 88) refl
   where
     other : (q r : Bool) → q || r ≡ z (cond q Y (cond r Z I))
@@ -20,6 +19,3 @@ returns c = at_88 c.args.b (eqb c.args.b 88) refl
     at_88 : (b : ℕ) (p : Bool) → eqb b 88 ≡ p → eqb b 89 || eqb b 90 ≡ z (letter_of b)
     at_88 b true e = rw (eqb-true b 88 e)
     at_88 b false e = rw e (other (eqb b 89) (eqb b 90))
-
-pub has_z_spec : {M : Type 1} → statement M
-has_z_spec = tie.close (tie.spec returns)

@@ -5,14 +5,10 @@ use lib.Dec.{eqb}
 use mathlib.Core.List.{[], ◌∷◌}
 use mathlib.Core.Bool.{Bool, cond, ◌||◌}
 use mathlib.Core.Path.{◌≡◌}
-use Rattle.read_rows.proofs.load.has_x.Statement.{statement}
-use Rattle.read_rows.proofs.load.has_x.Tie as tie
+use Rattle.read_rows.proofs.load.has_x.Goals as goal
 
-returns : tie.Need-returns
+pub returns : goal.returns
 returns c = law (eqb c.args.b 88) (eqb c.args.b 89) (eqb c.args.b 90)
   where
     law : (p q r : Bool) → p || q ≡ x (cond p X (cond q Y (cond r Z I)))
     law = tested (bit ∷ bit ∷ bit ∷ []) bit _ _ tt
-
-pub has_x_spec : {M : Type 1} → statement M
-has_x_spec = tie.close (tie.spec returns)
