@@ -4,7 +4,7 @@
 ghost use Rattle.std.specs.Prelude.{◌≡◌};
 ghost use Rattle.answers.specs.Refusals.{number_of, place_of};
 
-#[derive(Drop)]
+#[derive(Clone, Copy)]
 pub enum Refusal {
     NotQubits,
     QubitCount,
@@ -24,7 +24,7 @@ pub enum Refusal {
 }
 
 // How many bytes were written at the buffer's front, or why none were.
-#[derive(Drop)]
+#[derive(Clone, Copy)]
 pub enum Written {
     Bytes(usize),
     Refused(Refusal),
