@@ -1,6 +1,5 @@
 -- `column_sums::picks` meets its contract: the places passed are picked. Assumes nothing.
 use Rattle.column_sums.proofs.Picking.{number_small, picks_none, picks_more}
-use lib.ListN.{get_or}
 use native.Mathlib.Omega.{arith}
 use mathlib.Core.Path.{◌≡◌, ap₂}
 use Prim.Native.Nat.{ℕ, ◌+◌, ◌*◌}
@@ -11,28 +10,13 @@ pub loop-j-init : goal.loop-j-init
 loop-j-init c = (search rules, picks_none _ _ _)
 
 pub overflow_mul-p : goal.overflow_mul-p
-overflow_mul-p c =
-    let l = c in
-    let e = l.args in
-    omega (arith, c.number.ensures, number_small (get_or e.bytes.now (e.at + l.loop-j.j) 0))
+overflow_mul-p c = omega (arith, c.number.ensures, number_small)
 
 pub overflow_mul-p-in-loop-j : goal.overflow_mul-p-in-loop-j
-overflow_mul-p-in-loop-j c =
-    let l = c in
-    let e = l.args in
-    omega (arith, c.number-in-loop-j.ensures, number_small (get_or e.bytes.now (e.at + e.half + l.loop-j.j) 0))
+overflow_mul-p-in-loop-j c = omega (arith, c.number-in-loop-j.ensures, number_small)
 
 pub overflow_add-p : goal.overflow_add-p
-overflow_add-p c =
-    let l = c in
-    let e = l.args in
-    omega (
-      arith,
-      c.number.ensures,
-      c.number-in-loop-j.ensures,
-      number_small (get_or e.bytes.now (e.at + l.loop-j.j) 0),
-      number_small (get_or e.bytes.now (e.at + e.half + l.loop-j.j) 0),
-    )
+overflow_add-p c = omega (arith, c.number.ensures, c.number-in-loop-j.ensures, number_small)
 
 pub loop-j-preserved : goal.loop-j-preserved
 loop-j-preserved c =
