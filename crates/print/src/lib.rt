@@ -17,7 +17,7 @@ use circuit::Line;
 use clifford::Op;
 
 // How a run ended: its record is there, and its circuit's operation lines begin at body; or number and place of its refusal.
-#[derive(Drop)]
+#[derive(Clone, Copy)]
 enum Shape {
     Ran { qubits: usize, body: usize },
     Refused(usize, usize),

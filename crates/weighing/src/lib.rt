@@ -70,7 +70,7 @@ fn apply(words: &mut Words, code: usize)
 }
 
 // How many measurements the lines so far have, and how many of them are random.
-#[derive(Drop)]
+#[derive(Clone, Copy)]
 pub struct Passed {
     pub measured: usize,
     pub random: usize,
