@@ -6,8 +6,7 @@ pub returns-then-answer-eq0 : goal.returns-then-answer-eq0
 returns-then-answer-eq0 c =
     let e = c in
     let w = c.run.ensures in
-    let q = c.qubits-1.given in
-    let a = rw q.1 at c.scan.ensures in
+    let a = rw c.in-Circuit.is at c.scan.ensures in
     record {
       recorded = record { rest = _; runs = w };
       shown = ran e.args.text.now e.args.coins.now e.args.sheet.now _ _ _ _ a e.requires _ _ _ w (search rules) c.if-answer-eq0.true;
@@ -17,8 +16,7 @@ pub returns-else-answer-eq0 : goal.returns-else-answer-eq0
 returns-else-answer-eq0 c =
     let e = c in
     let w = c.run.ensures in
-    let q = c.qubits-1.given in
-    let a = rw q.1 at c.scan.ensures in
+    let a = rw c.in-Circuit.is at c.scan.ensures in
     record {
       recorded = record { rest = _; runs = w };
       shown = refused_as e.args.text.now e.args.coins.now e.args.sheet.now _ _ _ _ a e.requires _ _ _ w c.if-answer-eq0.false;

@@ -21,7 +21,7 @@ pub put_op-next-requires : goal.put_op-next-requires
 put_op-next-requires c =
     let e = c in
     let l = c.loop-at in
-    let s = rw c.in-Op.is at c.line_at_lem.ensures in
+    let s = rw c.in-Op.is at c.line_at.ensures in
     let t = c.loop-at-test.true in
     omega (arith, print_room _ _ _ _ _ e.requires _ _ _ _ _ l.invariant t _ _ s)
 
@@ -29,7 +29,7 @@ pub overflow_add-k : goal.overflow_add-k
 overflow_add-k c =
     let e = c in
     let l = c.loop-at in
-    omega (arith, e.well-formed, print_mark _ _ _ _ _ e.requires _ _ _ _ _ l.invariant, measures_one c.in-Op.op, c.one_if_measure-k.ensures)
+    omega (arith, e.well_formed, print_mark _ _ _ _ _ e.requires _ _ _ _ _ l.invariant, measures_one c.in-Op.op, c.one_if_measure-k.ensures)
 
 pub overflow_add-line : goal.overflow_add-line
 overflow_add-line c =
@@ -41,7 +41,7 @@ pub loop-at-smaller : goal.loop-at-smaller
 loop-at-smaller c =
     let e = c in
     let l = c.loop-at in
-    let s = rw c.in-Op.is at c.line_at_lem.ensures in
+    let s = rw c.in-Op.is at c.line_at.ensures in
     let t = c.loop-at-test.true in
     omega (arith, t, s.after, s.within)
 
@@ -49,7 +49,7 @@ pub loop-at-preserved : goal.loop-at-preserved
 loop-at-preserved c =
     let e = c in
     let l = c.loop-at in
-    let s = rw c.in-Op.is at c.line_at_lem.ensures in
+    let s = rw c.in-Op.is at c.line_at.ensures in
     let t = c.loop-at-test.true in
     rw c.one_if_measure-k.ensures (print_on _ _ _ _ _ e.requires _ _ _ _ _ l.invariant t _ _ s _ _ c.put_op-next.ensures)
 
@@ -60,7 +60,7 @@ pub returns-in-Malformed : goal.returns-in-Malformed
 returns-in-Malformed c =
     let e = c in
     let l = c.loop-at in
-    absurd (print_whole _ _ _ _ _ e.requires _ _ _ _ _ l.invariant c.loop-at-test.true (rw c.in-Malformed.is at c.line_at_lem.ensures))
+    absurd (print_whole _ _ _ _ _ e.requires _ _ _ _ _ l.invariant c.loop-at-test.true (rw c.in-Malformed.is at c.line_at.ensures))
 
 pub slice_bounds-put_rows-count : goal.slice_bounds-put_rows-count
 slice_bounds-put_rows-count c =
