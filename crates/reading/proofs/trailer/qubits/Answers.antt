@@ -1,0 +1,14 @@
+-- `reading::trailer::qubits` meets its contract. Assumes nothing.
+use Rattle.records.specs.Reading.{number_in}
+use lib.Seq.{drop-drop}
+use lib.ListN.{length, take}
+use Prim.Native.Nat.{◌-◌}
+use mathlib.Core.List.{List}
+use mathlib.Core.Path.{◌∙◌, sym, ap}
+use borrow.Author.Rules.{rules}
+use Rattle.reading.proofs.trailer.qubits.Goals as goal
+
+pub returns : goal.returns
+returns c =
+    let s = c.args.bytes.now in
+    (c.two.ensures.0 ∙ ap (λ (l : List _). number_in (take 2 l)) (sym (drop-drop 8 (length s - 12) s)), search rules)
