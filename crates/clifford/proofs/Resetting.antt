@@ -3,7 +3,7 @@ use mathlib.Core.Path.{◌≡◌, refl, sym, ap, ap₂}
 use mathlib.Core.Bool.{Bool, true, false, cond}
 use mathlib.Core.List.{List, [], ◌∷◌, ◌++◌}
 use mathlib.Core.Option.{Option, none, some}
-use Prim.Native.Nat.{ℕ, ◌+◌, ◌<◌}
+use Prim.Native.Nat.{ℕ, ◌<◌}
 use lib.Dec.{eqb}
 use Rattle.answers.specs.First.{lowest}
 use Rattle.answers.specs.Verdict.{Verdict, accepted, refused}
@@ -15,7 +15,7 @@ use Rattle.clifford.specs.declared.After.{After}
 use Rattle.clifford.specs.declared.After.TheVariants.{Keep, Reset}
 use Rattle.clifford.specs.declared.Op.TheVariants.{Measure as measure}
 use Rattle.clifford.specs.Tableau.{Rows, Paired}
-use Rattle.clifford.specs.Measurement.{Answer, has_x, random_row, cleared, settled, collapsed, fixed_value}
+use Rattle.clifford.specs.Measurement.{has_x, random_row, cleared, settled, collapsed, fixed_value}
 use Rattle.clifford.specs.Generators.{FixedAt}
 use Rattle.clifford.specs.Run.{State, coin, afterwards, settle, step}
 use Rattle.clifford.proofs.Pairing.{collapsed_paired}

@@ -1,10 +1,10 @@
 use borrow.Author.Rules.{rules}
-use Prim.Native.Nat.{ℕ, ◌≤◌, ◌-◌}
+use Prim.Native.Nat.{ℕ, ◌-◌}
 use mathlib.Core.Path.{◌≡◌, ◌∙◌, ap}
 use native.Mathlib.Omega.{arith}
 use lib.ListN.{length}
 use Rattle.product.specs.Parts.Table.{power_number}
-use Rattle.product.proofs.Laws.{phase_below, Summed, sum-none, sum_more}
+use Rattle.product.proofs.Laws.{phase_below, sum-none, sum_more}
 use Rattle.product.proofs.power_sum.Goals as goal
 
 pub loop-k-init : goal.loop-k-init

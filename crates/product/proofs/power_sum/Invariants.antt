@@ -1,10 +1,6 @@
-use borrow.Author.Rules.{rules}
-use Prim.Native.Nat.{ℕ, ◌≤◌, ◌-◌}
-use mathlib.Core.Path.{◌≡◌, ◌∙◌, ap}
-use native.Mathlib.Omega.{arith}
+use Prim.Native.Nat.{◌≤◌, ◌-◌}
 use lib.ListN.{length}
-use Rattle.product.specs.Parts.Table.{power_number}
-use Rattle.product.proofs.Laws.{phase_below, Summed, sum-none, sum_more}
+use Rattle.product.proofs.Laws.{Summed}
 use Rattle.product.proofs.power_sum.Given as goal
 
 abbrev pub invariant-loop-k : goal.invariant-loop-k

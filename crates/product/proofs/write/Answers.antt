@@ -1,9 +1,8 @@
 use borrow.Author.Rules.{rules}
-use Prim.Native.Nat.{◌-◌}
 use native.Mathlib.Omega.{arith}
 use mathlib.Core.Path.{◌≡◌, ◌∙◌}
 use lib.ListN.{length, set, length-set}
-use Rattle.product.proofs.Laws.{Writing, write_sign, write_letter, write_over, write_end, write_length}
+use Rattle.product.proofs.Laws.{write_sign, write_letter, write_over, write_end, write_length}
 use Rattle.product.proofs.write.Goals as goal
 
 pub loop-k-init : goal.loop-k-init

@@ -6,7 +6,6 @@ use lib.Bits.{bit_and, and_mask, and_le_r}
 use lib.Dec.{eqb}
 use Rattle.words.specs.Bit.{bit}
 use Rattle.words.proofs.BitLaws.{bit-ones, bit-zero}
-use borrow.Author.Rules.{rules}
 use Rattle.words.proofs.splat.Goals as goal
 
 spread_digit : (d k : ℕ) → d < 2 → k < 64 → bit k (d * (2 ^ 64 - 1)) ≡ eqb d 1
