@@ -13,7 +13,7 @@ use borrow.Author.Tests.{eqb-true, eqb-false}
 use Rattle.limits.specs.Limits.{most_qubits}
 use Rattle.words.specs.Bit.{bit}
 use Rattle.words.proofs.BitLaws.{bit-ones, bit-zero}
-use Rattle.pauli.specs.Letters.{letter, x, z, ◌⊕◌}
+use Rattle.pauli.specs.Letters.{letter, ◌⊕◌}
 use Rattle.pauli.proofs.Cases.{tested, bit as bool, ltr}
 use Rattle.clifford.specs.declared.One.{One}
 use Rattle.clifford.specs.declared.One.TheVariants.{H, S, PauliX, PauliY, PauliZ}

@@ -1,5 +1,5 @@
 -- The steps of a gate, each as what it does to the bits of every row. Assumes nothing.
-use mathlib.Core.Path.{◌≡◌, ap, ap₂, ◌∙◌}
+use mathlib.Core.Path.{◌≡◌, ap, ◌∙◌}
 use mathlib.Core.Bool.{Bool, ◌&&◌}
 use mathlib.Core.List.{List}
 use Prim.Native.Nat.{ℕ, ◌+◌, ◌%◌, ◌≤◌, ◌<◌}

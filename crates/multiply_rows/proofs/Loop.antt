@@ -23,7 +23,7 @@ use Rattle.clifford.specs.Tableau.{blank}
 use Rattle.packing.specs.View.{row_count, sign_words, Words, bit_at, letter_at, row_at}
 use Rattle.packing.specs.Parts.Changes.{Changed}
 use Rattle.groups.specs.Parts.Rows.{row_bit}
-use Rattle.packing.proofs.Groups.{stored, beside_signs}
+use Rattle.packing.proofs.Groups.{beside_signs}
 use Rattle.packing.proofs.Views.{cond_same, row_eq, guard, guard_in, guard_out, guarded}
 use Rattle.multiply_rows.specs.declared.Powers.{Powers}
 use Rattle.multiply_rows.specs.Parts.Steps.{power_in_bits, count_of, Lettered, if_kept, Timed, erased, Keeps, without, Multiplied}

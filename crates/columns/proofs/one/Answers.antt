@@ -5,7 +5,6 @@ use native.Mathlib.Omega.{arith}
 use Rattle.packing.specs.View.{word_count}
 use Rattle.columns.proofs.Letters.{picked_in, one_gate}
 use Rattle.columns.proofs.Steps.{turned_by}
-use borrow.Author.Rules.{rules}
 use Rattle.columns.proofs.one.Goals as goal
 
 pub one_turns-turned-requires : goal.one_turns-turned-requires

@@ -1,7 +1,6 @@
 use mathlib.Core.Path.{ap₂, refl, ◌∙◌}
 use Rattle.pauli.specs.Letters.{◌⊕◌}
 use Rattle.columns.proofs.Steps.{changed_same}
-use borrow.Author.Rules.{rules}
 use Rattle.columns.proofs.turn.Goals as goal
 
 pub returns : goal.returns

@@ -4,7 +4,6 @@ use Rattle.packing.specs.View.{word_count}
 use Rattle.columns.proofs.Letters.{picked_in, all_or_none}
 use Rattle.columns.proofs.Pairs.{two_picked}
 use Rattle.columns.proofs.Steps.{turned_by}
-use borrow.Author.Rules.{rules}
 use Rattle.columns.proofs.two.Goals as goal
 
 pub two_turns-turned-requires : goal.two_turns-turned-requires

@@ -1,7 +1,6 @@
 use mathlib.Core.Path.{ap₂, ◌∙◌}
 use mathlib.Core.Bool.{◌&&◌}
 use Rattle.pauli.specs.Letters.{◌⊕◌}
-use borrow.Author.Rules.{rules}
 use Rattle.columns.proofs.two_turns.Goals as goal
 
 pub returns : goal.returns

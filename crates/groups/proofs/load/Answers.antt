@@ -1,5 +1,4 @@
 use Rattle.packing.proofs.Groups.{bit-loads}
-use borrow.Author.Rules.{rules}
 use Rattle.groups.proofs.load.Goals as goal
 
 pub returns : goal.returns

@@ -1,5 +1,4 @@
 use Rattle.groups.proofs.Single.{single}
-use borrow.Author.Rules.{rules}
 use Rattle.groups.proofs.row.Goals as goal
 
 pub returns : goal.returns

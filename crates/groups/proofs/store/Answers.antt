@@ -1,7 +1,6 @@
 use mathlib.Core.Path.{refl}
 use Rattle.packing.proofs.Groups.{changed}
 use Rattle.groups.specs.Parts.Rows.{words_of, row_bit}
-use borrow.Author.Rules.{rules}
 use Rattle.groups.proofs.store.Goals as goal
 
 pub returns : goal.returns

@@ -2,7 +2,6 @@ use native.Mathlib.Omega.{arith}
 use Rattle.pauli.specs.Rows.{odd_number}
 use Rattle.words.specs.Bit.{bit}
 use Rattle.measure_fixed.proofs.Counts.{both_set, both_clear}
-use borrow.Author.Rules.{rules}
 use Rattle.measure_fixed.proofs.both_odd.Goals as goal
 
 pub returns-then-p-eq1 : goal.returns-then-p-eq1

@@ -10,7 +10,6 @@ use Rattle.pauli.specs.Rows.{minus_sign}
 use Rattle.measure_fixed.specs.Parts.Column.{pair, all_powers}
 use Rattle.measure_fixed.proofs.Counts.{minus_power}
 use Rattle.measure_fixed.proofs.Tied.{tied, fixed_none, fixed_one}
-use borrow.Author.Rules.{rules}
 use Rattle.measure_fixed.proofs.fixed_value.Goals as goal
 
 small : (w : ℕ) → Fits w64 (count_trailing_zeros 64 w)

@@ -1,12 +1,6 @@
-use borrow.Author.Rules.{rules}
-use mathlib.Core.Path.{◌≡◌, subst}
-use mathlib.Core.Logic.{⊎_elim}
 use Prim.Native.Nat.{◌≤◌, ◌-◌}
-use native.Mathlib.Omega.{arith}
-use lib.Count.{ones, ones-le}
-use Rattle.limits.specs.Limits.{most_qubits}
 use Rattle.measure_fixed.specs.Parts.Column.{pair}
-use Rattle.measure_fixed.proofs.Passing.{Passing, passing_none, passing_more, passing_over, passing_same, passing_all}
+use Rattle.measure_fixed.proofs.Passing.{Passing}
 use Rattle.measure_fixed.proofs.powers.Given as goal
 
 abbrev pub invariant-loop-j : goal.invariant-loop-j

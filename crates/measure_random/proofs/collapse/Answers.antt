@@ -10,7 +10,6 @@ use Rattle.groups.specs.Parts.Rows.{row_bit, All}
 use Rattle.groups.specs.declared.Group.{Group}
 use Rattle.multiply_rows.specs.Parts.Steps.{Keeps}
 use Rattle.measure_random.proofs.Whole.{both_rows, held, whole}
-use borrow.Author.Rules.{rules}
 use Rattle.measure_random.proofs.collapse.Goals as goal
 
 -- all rows but the two of number p

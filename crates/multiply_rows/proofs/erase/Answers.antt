@@ -1,5 +1,4 @@
 use Rattle.multiply_rows.proofs.Columns.{erased_by}
-use borrow.Author.Rules.{rules}
 use Rattle.multiply_rows.proofs.erase.Goals as goal
 
 pub returns : goal.returns

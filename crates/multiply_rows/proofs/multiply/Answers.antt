@@ -1,13 +1,11 @@
 use mathlib.Core.Path.{◌≡◌, refl, ap, ◌∙◌}
-use mathlib.Core.Bool.{Bool}
-use Prim.Native.Nat.{ℕ, ◌+◌, ◌-◌, ◌*◌, ◌%◌, ◌≤◌, ◌<◌}
+use Prim.Native.Nat.{◌%◌, ◌<◌}
 use native.Mathlib.Omega.{arith}
 use Rattle.limits.specs.Limits.{most_qubits}
 use Rattle.words.proofs.BitLaws.{bit-zero}
-use Rattle.packing.specs.View.{letter_at}
 use Rattle.groups.specs.Parts.Rows.{row_bit}
 use Rattle.multiply_rows.specs.declared.Powers.{Powers}
-use Rattle.multiply_rows.proofs.Loop.{Multiplying, multiply_none, multiply_more, multiply_clear, multiplying_same, letter_of, sign_of, none_there, multiplied}
+use Rattle.multiply_rows.proofs.Loop.{multiply_none, multiply_more, multiply_clear, multiplying_same, letter_of, sign_of, none_there, multiplied}
 use borrow.Author.Rules.{rules}
 use Rattle.multiply_rows.proofs.multiply.Goals as goal
 use Rattle.multiply_rows.proofs.multiply.Goals.{then-x-z-eq1, else-x-z-eq1}
@@ -30,17 +28,17 @@ loop-j-preserved c =
     let lo = row_bit v.counts.lo in (
       omega (arith, turn),
       elim u.branch [
-        then-x-z-eq1 d ↦
-          multiplying_same
-          (multiply_more _ m _ w₀ v.j v.w hi lo v.invariant.1 below (row_bit e.args.keep) _ _ e.requires.4
-          (letter_of e.args.g e.args.q e.requires.2 e.requires.3 m w₀ v.j v.w hi lo v.invariant.1 below d.splat.result d.splat-then-x-z-eq1.result _ _ d.splat.ensures d.splat-then-x-z-eq1.ensures d.all-px.ensures d.all-pz.ensures)
-          d.times-counts.ensures (λ s l. refl))
-          d.w-is (ap (λ (r : Powers). row_bit r.hi) d.counts-is) (ap (λ (r : Powers). row_bit r.lo) d.counts-is)
-      | else-x-z-eq1 d ↦
-          multiplying_same
-          (multiply_clear e.args.g e.args.q e.requires.2 e.requires.3 m w₀ v.j v.w hi lo v.invariant.1 below
-          (none_there e.args.g e.args.q e.requires.2 e.requires.3 m w₀ v.j v.w hi lo v.invariant.1 below d.if-x-z-eq1.false) d.erase.ensures)
-          d.w-is (ap (λ (r : Powers). row_bit r.hi) d.counts-is) (ap (λ (r : Powers). row_bit r.lo) d.counts-is)
+        | then-x-z-eq1 d ↦
+            multiplying_same
+            (multiply_more _ m _ w₀ v.j v.w hi lo v.invariant.1 below (row_bit e.args.keep) _ _ e.requires.4
+            (letter_of e.args.g e.args.q e.requires.2 e.requires.3 m w₀ v.j v.w hi lo v.invariant.1 below d.splat.result d.splat-then-x-z-eq1.result _ _ d.splat.ensures d.splat-then-x-z-eq1.ensures d.all-px.ensures d.all-pz.ensures)
+            d.times-counts.ensures (λ s l. refl))
+            d.w-is (ap (λ (r : Powers). row_bit r.hi) d.counts-is) (ap (λ (r : Powers). row_bit r.lo) d.counts-is)
+        | else-x-z-eq1 d ↦
+            multiplying_same
+            (multiply_clear e.args.g e.args.q e.requires.2 e.requires.3 m w₀ v.j v.w hi lo v.invariant.1 below
+            (none_there e.args.g e.args.q e.requires.2 e.requires.3 m w₀ v.j v.w hi lo v.invariant.1 below d.if-x-z-eq1.false) d.erase.ensures)
+            d.w-is (ap (λ (r : Powers). row_bit r.hi) d.counts-is) (ap (λ (r : Powers). row_bit r.lo) d.counts-is)
       ],
     )
 

@@ -2,7 +2,6 @@ use mathlib.Core.Path.{ap, ap₂, ◌∙◌}
 use mathlib.Core.Bool.{Bool, ◌&&◌}
 use Rattle.pauli.specs.Letters.{◌⊕◌}
 use Rattle.groups.specs.Parts.Rows.{row_bit}
-use borrow.Author.Rules.{rules}
 use Rattle.multiply_rows.proofs.sign.Goals as goal
 
 pub returns : goal.returns

@@ -1,14 +1,13 @@
 use mathlib.Core.Path.{◌≡◌, ap, ap₂, ◌∙◌}
 use mathlib.Core.Bool.{Bool, ◌&&◌}
-use Prim.Native.Nat.{ℕ, ◌+◌, ◌*◌, ◌<◌}
+use Prim.Native.Nat.{ℕ, ◌+◌, ◌*◌}
 use native.Mathlib.Omega.{arith}
 use Rattle.pauli.specs.Letters.{letter, ◌⊕◌}
-use Rattle.packing.specs.View.{row_count, bit_at}
+use Rattle.packing.specs.View.{bit_at}
 use Rattle.groups.specs.Parts.Rows.{row_bit, All}
 use Rattle.multiply_rows.specs.Parts.Steps.{power_in_bits}
 use Rattle.multiply_rows.proofs.Bitwise.{letters_law, counts_law}
 use Rattle.multiply_rows.proofs.Columns.{lettered}
-use borrow.Author.Rules.{rules}
 use Rattle.multiply_rows.proofs.times.Goals as goal
 
 pub store-requires : goal.store-requires

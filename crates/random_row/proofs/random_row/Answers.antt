@@ -5,7 +5,6 @@ use mir.Val.{Fits}
 use lib.Count.{count_trailing_zeros, trailing_le}
 use native.Mathlib.Omega.{arith}
 use Rattle.random_row.proofs.Lowest.{found_in, found_none}
-use borrow.Author.Rules.{rules}
 use Rattle.random_row.proofs.random_row.Goals as goal
 
 small : (w : ℕ) → Fits w64 (count_trailing_zeros 64 w)

@@ -1,9 +1,8 @@
 use borrow.Author.Rules.{rules}
 use mathlib.Core.Path.{◌≡◌}
-use Prim.Native.Nat.{◌-◌, ◌≤◌}
 use native.Mathlib.Omega.{arith}
 use Rattle.packing.specs.View.{word_count}
-use Rattle.start_rows.proofs.Starting.{Cleared, cleared_more}
+use Rattle.start_rows.proofs.Starting.{cleared_more}
 use Rattle.start_rows.proofs.clear.Goals as goal
 
 pub loop-i-init : goal.loop-i-init

@@ -1,9 +1,6 @@
-use borrow.Author.Rules.{rules}
-use mathlib.Core.Path.{◌≡◌}
 use Prim.Native.Nat.{◌-◌, ◌≤◌}
-use native.Mathlib.Omega.{arith}
 use Rattle.packing.specs.View.{word_count}
-use Rattle.start_rows.proofs.Starting.{Cleared, cleared_more}
+use Rattle.start_rows.proofs.Starting.{Cleared}
 use Rattle.start_rows.proofs.clear.Given as goal
 
 abbrev pub invariant-loop-i : goal.invariant-loop-i

@@ -1,9 +1,5 @@
-use borrow.Author.Rules.{rules}
-use mathlib.Core.Path.{◌≡◌}
-use Prim.Native.Nat.{◌-◌, ◌≤◌, ◌<◌}
-use native.Mathlib.Omega.{arith}
-use Rattle.limits.specs.Limits.{most_qubits}
-use Rattle.start_rows.proofs.Starting.{Started, started_none, started_more, start_held, started}
+use Prim.Native.Nat.{◌-◌, ◌≤◌}
+use Rattle.start_rows.proofs.Starting.{Started}
 use Rattle.start_rows.proofs.start.Given as goal
 
 abbrev pub invariant-loop-i : goal.invariant-loop-i
