@@ -1,11 +1,10 @@
 -- What holds of bytes whose last record is accepted. Assumes nothing.
-use mathlib.Core.Path.{◌≡◌, refl}
-use mathlib.Core.Bool.{Bool, true, false}
+use mathlib.Core.Path.{◌≡◌}
 use mathlib.Core.List.{List}
-use mathlib.Core.Option.{Option, none, some}
+use mathlib.Core.Option.{none}
 use Prim.Native.Nat.{ℕ, ◌+◌}
 use lib.ListN.{take}
-use Rattle.answers.specs.Verdict.{Verdict, accepted, unless, unless_at}
+use Rattle.answers.specs.Verdict.{accepted, unless_at}
 use Rattle.answers.proofs.Accepting.{same_accepted, unless_passed, unless_at_passed}
 use Rattle.records.specs.Record.{to_rows}
 use Rattle.records.specs.Reading.{qubits_in, ends_in_record, last_record, outcome_count, first_bad, rows_in, first_wrong, reading, Read, read_of}

@@ -17,7 +17,7 @@ use Rattle.pauli.specs.Rows.{Row}
 use Rattle.pauli.specs.Texts.{row_text, fits_at, spelled}
 use Rattle.clifford.specs.Tableau.{Rows, blank, numbered}
 use Rattle.records.specs.Record.{low_first, rows_text, to_rows, trailer, record_with, record_length}
-use Rattle.records.specs.Reading.{number_in, last_twelve, first_distance, second_distance, qubits_in, marked, last_record, outcome_count, outcome_part, is_mark, byte_fits, first_bad, row_in, rows_in, first_wrong, reading, read_of}
+use Rattle.records.specs.Reading.{number_in, last_twelve, first_distance, second_distance, qubits_in, last_record, outcome_count, outcome_part, is_mark, byte_fits, first_bad, row_in, rows_in, first_wrong, reading, read_of}
 use Rattle.records.proofs.Lengths.{length-trailer, length-record, square_below}
 use Rattle.records.proofs.Numbers.{number_low}
 use Rattle.records.proofs.RowTexts.{text_fits, spelled_text}

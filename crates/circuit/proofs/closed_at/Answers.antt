@@ -1,6 +1,6 @@
+-- `circuit::closed_at` meets its contract. Assumes nothing.
 use native.Mathlib.Omega.{arith}
 use Rattle.circuit.proofs.Readings.{closed, not_closed}
-use borrow.Author.Rules.{rules}
 use Rattle.circuit.proofs.closed_at.Goals as goal
 
 pub overflow_add-result : goal.overflow_add-result

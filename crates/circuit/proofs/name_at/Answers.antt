@@ -1,8 +1,8 @@
+-- `circuit::name_at` meets its contract: each letter is looked up in the list of names. Assumes nothing.
 use mathlib.Core.Path.{refl, ◌∙◌}
 use Prim.Native.Nat.{◌+◌}
 use lib.ListN.{drop}
 use Rattle.circuit.proofs.Names.{no_name, name_byte, spelled_one, spelled_two, spelled_keep, spelled_none, no_letter}
-use borrow.Author.Rules.{rules}
 use Rattle.circuit.proofs.name_at.Goals as goal
 
 pub returns-then-s-at : goal.returns-then-s-at

@@ -1,4 +1,4 @@
-use borrow.Author.Rules.{rules}
+-- `circuit::qubits_apart` meets its contract. Assumes nothing.
 use Rattle.circuit.proofs.qubits_apart.Goals as goal
 
 pub returns-in-Two : goal.returns-in-Two

@@ -1,4 +1,4 @@
-use borrow.Author.Rules.{rules}
+-- `circuit::qubits_below` meets its contract. Assumes nothing.
 use Rattle.circuit.proofs.qubits_below.Goals as goal
 
 pub returns-in-One : goal.returns-in-One

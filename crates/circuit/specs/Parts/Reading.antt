@@ -1,7 +1,6 @@
 -- What the functions that read at a position of a text promise. Each says which definition of Lines.antt it decides there. Assumes nothing.
 use Rattle.std.specs.Prelude.{Bool, true, false, cond, List, [], ◌∷◌, ◌≡◌, ℕ, ◌+◌, ◌-◌, ◌≤◌, ◌<◌, length, drop}
 use Rattle.std.proofs.Math.Option.{none, some}
-use Rattle.clifford.specs.declared.One.{One}
 use Rattle.clifford.specs.declared.Two.{Two}
 use Rattle.clifford.specs.declared.Gate.TheVariants.{One as one, Two as two}
 use Rattle.clifford.specs.declared.Op.{Op}

@@ -1,3 +1,4 @@
+-- `columns::add` meets its contract. Assumes nothing.
 use mathlib.Core.Path.{ap₂, ◌∙◌}
 use Rattle.pauli.specs.Letters.{◌⊕◌}
 use Rattle.columns.proofs.Steps.{changed_same}

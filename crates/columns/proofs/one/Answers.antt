@@ -1,3 +1,4 @@
+-- `columns::one` meets its contract. Assumes nothing.
 use mathlib.Core.Bool.{◌||◌}
 use lib.Dec.{eqb}
 use Prim.Native.Nat.{◌+◌, ◌*◌}

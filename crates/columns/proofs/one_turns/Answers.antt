@@ -1,3 +1,4 @@
+-- `columns::one_turns` meets its contract. Assumes nothing.
 use mathlib.Core.Path.{ap₂, ◌∙◌}
 use mathlib.Core.Bool.{◌&&◌}
 use Rattle.pauli.specs.Letters.{◌⊕◌}

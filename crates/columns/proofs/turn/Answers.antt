@@ -1,3 +1,4 @@
+-- `columns::turn` meets its contract. Assumes nothing.
 use mathlib.Core.Path.{ap₂, refl, ◌∙◌}
 use Rattle.pauli.specs.Letters.{◌⊕◌}
 use Rattle.columns.proofs.Steps.{changed_same}

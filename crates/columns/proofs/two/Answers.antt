@@ -1,3 +1,4 @@
+-- `columns::two` meets its contract. Assumes nothing.
 use Prim.Native.Nat.{◌+◌, ◌*◌}
 use native.Mathlib.Omega.{arith}
 use Rattle.packing.specs.View.{word_count}

@@ -1,3 +1,4 @@
+-- `groups::all` meets its contract. Assumes nothing.
 use Rattle.packing.proofs.Groups.{bit-each}
 use Rattle.groups.proofs.all.Goals as goal
 

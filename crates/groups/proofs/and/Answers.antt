@@ -1,3 +1,4 @@
+-- `groups::and` meets its contract. Assumes nothing.
 use mathlib.Core.Path.{◌∙◌}
 use Prim.Native.Nat.{◌/◌, ◌%◌}
 use lib.Bits.{bit_and}

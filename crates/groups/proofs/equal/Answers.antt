@@ -1,3 +1,4 @@
+-- `groups::equal` meets its contract: words are equal exactly where all their bits are. Assumes nothing.
 use mathlib.Core.Path.{◌≡◌, sym, ap, ap₂, ◌∙◌}
 use mathlib.Core.Bool.{Bool, true, ◌&&◌}
 use borrow.Author.Rules.{rules}

@@ -1,3 +1,4 @@
+-- `groups::load` meets its contract. Assumes nothing.
 use Rattle.packing.proofs.Groups.{bit-loads}
 use Rattle.groups.proofs.load.Goals as goal
 

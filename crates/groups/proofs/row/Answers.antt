@@ -1,3 +1,4 @@
+-- `groups::row` meets its contract. Assumes nothing.
 use Rattle.groups.proofs.Single.{single}
 use Rattle.groups.proofs.row.Goals as goal
 

@@ -1,3 +1,4 @@
+-- `groups::store` meets its contract. Assumes nothing.
 use mathlib.Core.Path.{refl}
 use Rattle.packing.proofs.Groups.{changed}
 use Rattle.groups.specs.Parts.Rows.{words_of, row_bit}

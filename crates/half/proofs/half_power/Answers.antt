@@ -1,3 +1,4 @@
+-- `half::half_power` meets its contract. Assumes nothing.
 use mathlib.Core.Path.{◌≡◌, sym, subst}
 use Prim.Native.Nat.{ℕ}
 use mathlib.Core.Bool.{not}

@@ -1,3 +1,4 @@
+-- `measure_fixed::both_odd` meets its contract: the top bit of a word of parities is the parity of all bits. Assumes nothing.
 use native.Mathlib.Omega.{arith}
 use Rattle.pauli.specs.Rows.{odd_number}
 use Rattle.words.specs.Bit.{bit}

@@ -1,3 +1,4 @@
+-- `measure_fixed::first_powers` meets its contract. Assumes nothing.
 use borrow.Author.Rules.{rules}
 use mathlib.Core.Path.{◌≡◌, refl, subst}
 use Prim.Native.Nat.{◌≤◌}

@@ -1,3 +1,4 @@
+-- `measure_fixed::fixed_value` meets its contract. Assumes nothing.
 use mathlib.Core.Path.{◌≡◌, refl, sym, ap, ◌∙◌}
 use Prim.Native.Nat.{ℕ, zero, suc, ◌*◌, ◌<◌}
 use native.Mathlib.Omega.{arith}

@@ -1,3 +1,4 @@
+-- `measure_fixed::parities` meets its contract: each line doubles the number of bits whose parity a bit has. Assumes nothing.
 use Rattle.measure_fixed.proofs.Shifts.{window_one, window_more, window_all}
 use Rattle.measure_fixed.proofs.parities.Goals as goal
 

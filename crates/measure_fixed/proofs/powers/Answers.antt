@@ -1,3 +1,4 @@
+-- `measure_fixed::powers` meets its contract. Assumes nothing.
 use borrow.Author.Rules.{rules}
 use mathlib.Core.Path.{◌≡◌, subst}
 use Prim.Native.Nat.{◌≤◌}

@@ -1,3 +1,4 @@
+-- `measure_random::collapse` meets its contract. Assumes nothing.
 use mathlib.Core.Path.{◌≡◌, ap, ap₂, ◌∙◌}
 use mathlib.Core.Bool.{not, ◌&&◌}
 use Prim.Native.Nat.{ℕ, ◌+◌, ◌*◌, ◌/◌, ◌%◌, ◌<◌}

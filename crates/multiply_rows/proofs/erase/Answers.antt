@@ -1,3 +1,4 @@
+-- `multiply_rows::erase` meets its contract. Assumes nothing.
 use Rattle.multiply_rows.proofs.Columns.{erased_by}
 use Rattle.multiply_rows.proofs.erase.Goals as goal
 

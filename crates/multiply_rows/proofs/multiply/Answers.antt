@@ -1,3 +1,4 @@
+-- `multiply_rows::multiply` meets its contract. Assumes nothing.
 use mathlib.Core.Path.{◌≡◌, refl, ap, ◌∙◌}
 use Prim.Native.Nat.{◌%◌, ◌<◌}
 use native.Mathlib.Omega.{arith}

@@ -1,3 +1,4 @@
+-- `multiply_rows::sign` meets its contract. Assumes nothing.
 use mathlib.Core.Path.{ap, ap₂, ◌∙◌}
 use mathlib.Core.Bool.{Bool, ◌&&◌}
 use Rattle.pauli.specs.Letters.{◌⊕◌}

@@ -1,3 +1,4 @@
+-- `multiply_rows::times` meets its contract. Assumes nothing.
 use mathlib.Core.Path.{◌≡◌, ap, ap₂, ◌∙◌}
 use mathlib.Core.Bool.{Bool, ◌&&◌}
 use Prim.Native.Nat.{ℕ, ◌+◌, ◌*◌}

@@ -1,3 +1,4 @@
+-- `random_row::random_row` meets its contract. Assumes nothing.
 use mathlib.Core.Path.{refl}
 use Prim.Native.Nat.{ℕ, zero, suc, ◌<◌}
 use mir.Syntax.{w64}

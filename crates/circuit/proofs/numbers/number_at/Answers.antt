@@ -1,8 +1,8 @@
-use borrow.Author.Rules.{rules}
+-- `circuit::number_at` meets its contract. The invariant: the number at `at` is what the digits from `next` on make of the value so far. Assumes nothing.
 use native.Mathlib.Omega.{arith}
 use mathlib.Core.Path.{sym, ◌∙◌}
 use lib.ListN.{drop}
-use Rattle.circuit.proofs.Digits.{digit_at, no_number, Reading, number_zero, begun, more, stopped, ended, below_thousand}
+use Rattle.circuit.proofs.Digits.{digit_at, no_number, number_zero, begun, more, stopped, ended, below_thousand}
 use Rattle.circuit.proofs.numbers.number_at.Goals as goal
 
 pub returns-then-first-eq10 : goal.returns-then-first-eq10

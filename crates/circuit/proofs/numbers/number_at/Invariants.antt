@@ -1,8 +1,4 @@
-use borrow.Author.Rules.{rules}
-use native.Mathlib.Omega.{arith}
-use mathlib.Core.Path.{sym, ◌∙◌}
-use lib.ListN.{drop}
-use Rattle.circuit.proofs.Digits.{digit_at, no_number, Reading, number_zero, begun, more, stopped, ended, below_thousand}
+use Rattle.circuit.proofs.Digits.{Reading}
 use Rattle.circuit.proofs.numbers.number_at.Given as goal
 
 abbrev pub invariant-loop-left : goal.invariant-loop-left

@@ -1,8 +1,8 @@
+-- `circuit::qubit_at` meets its contract. Assumes nothing.
 use native.Mathlib.Omega.{arith}
 use Prim.Native.Nat.{◌+◌}
 use Rattle.circuit.specs.Lines.{qubit, number}
 use Rattle.circuit.proofs.Readings.{spaced, not_spaced, number_moved}
-use borrow.Author.Rules.{rules}
 use Rattle.circuit.proofs.numbers.qubit_at.Goals as goal
 
 pub overflow_add-at : goal.overflow_add-at

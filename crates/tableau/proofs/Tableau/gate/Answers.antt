@@ -1,3 +1,4 @@
+-- `Tableau::gate` meets its contract. Assumes nothing.
 use Rattle.columns.proofs.Gates.{fits_more}
 use Rattle.tableau.proofs.Measuring.{applied}
 use Rattle.tableau.proofs.Tableau.gate.Goals as goal

@@ -1,9 +1,9 @@
+-- `Tableau::measure` meets its contract. Assumes nothing.
 use mathlib.Core.Option.{some}
 use mathlib.Core.Path.{◌≡◌, refl}
 use Rattle.answers.proofs.First.{lowest_below}
 use Rattle.tableau.specs.View.{rows}
 use Rattle.tableau.proofs.Measuring.{random_answer, fixed_answer}
-use borrow.Author.Rules.{rules}
 use Rattle.tableau.proofs.Tableau.measure.Goals as goal
 
 pub random_row-found-requires : goal.random_row-found-requires

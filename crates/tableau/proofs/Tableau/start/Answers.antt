@@ -1,4 +1,4 @@
-use borrow.Author.Rules.{rules}
+-- `Tableau::start` meets its contract. Assumes nothing.
 use Rattle.tableau.proofs.Measuring.{becomes}
 use Rattle.tableau.proofs.Tableau.start.Goals as goal
 
