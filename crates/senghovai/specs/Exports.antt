@@ -10,9 +10,9 @@ use Rattle.records.specs.Reading.{Read}
 use Rattle.tally.specs.Tally.{one_if}
 use Rattle.run.specs.Run.{Sheet, run_of, buffer_after}
 
-abbrev pub number_of : {A : Type 0} → Verdict A → ℕ
-number_of (accepted a) = 0
-number_of (refused number place) = number
+abbrev pub verdict_number : {A : Type 0} → Verdict A → ℕ
+verdict_number (accepted a) = 0
+verdict_number (refused number place) = number
 
 -- place, n, operations
 abbrev pub check_places : Verdict Size → List ℕ
@@ -26,7 +26,7 @@ run_places coins (refused number place) = place ∷ 0 ∷ length coins ∷ 0 ∷
 
 -- what a run returns, answers and leaves in the buffer
 pub record ExportsRun (circuit coins old : List ℕ) (number : ℕ) (answer new : List ℕ) : Type 0 where
-  pub number_is : number ≡ number_of (run_of circuit coins (length old))
+  pub number_is : number ≡ verdict_number (run_of circuit coins (length old))
   pub answer_is : answer ≡ run_places coins (run_of circuit coins (length old))
   pub buffer : new ≡ buffer_after (run_of circuit coins (length old)) old
 
@@ -42,7 +42,7 @@ write_places (refused number place) = place ∷ 0 ∷ []
 
 -- what a function that writes bytes returns, answers and leaves in the buffer
 pub record ExportsWritten (v : Verdict (List ℕ)) (old : List ℕ) (number : ℕ) (answer new : List ℕ) : Type 0 where
-  pub number_is : number ≡ number_of (counted (then v (within (length old))))
+  pub number_is : number ≡ verdict_number (counted (then v (within (length old))))
   pub answer_is : answer ≡ write_places (counted (then v (within (length old))))
   pub buffer : new ≡ after (then v (within (length old))) old
 

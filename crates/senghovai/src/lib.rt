@@ -9,7 +9,7 @@ ghost use Rattle.checking.specs.Check.{check_of};
 ghost use Rattle.probability.specs.Probability.{probability_of};
 ghost use Rattle.product.specs.Product.{product_of};
 ghost use Rattle.records.specs.Reading.{read_of};
-ghost use Rattle.senghovai.specs.Exports.{number_of, chance_places, check_places, ExportsRun, read_places, ExportsWritten, same_number, same_places, write_places};
+ghost use Rattle.senghovai.specs.Exports.{verdict_number, chance_places, check_places, ExportsRun, read_places, ExportsWritten, same_number, same_places, write_places};
 ghost use Rattle.answers.specs.Refusals.{told_written};
 
 use answers::Written;
@@ -19,7 +19,7 @@ use probability::Chance;
 
 #[unsafe(no_mangle)]
 pub extern "C" fn senghovai_check(circuit: &[u8], answer: &mut [u64; 3]) -> u64
-    ensures { (result ≡ number_of (check_of circuit.now)) × (answer.new ≡ check_places (check_of circuit.now)) }
+    ensures { (result ≡ verdict_number (check_of circuit.now)) × (answer.new ≡ check_places (check_of circuit.now)) }
 {
     match library::check(circuit) {
         Checked::Circuit { qubits, operations } => {
@@ -57,7 +57,7 @@ pub extern "C" fn senghovai_run(
 
 #[unsafe(no_mangle)]
 pub extern "C" fn senghovai_read(bytes: &[u8], answer: &mut [u64; 5]) -> u64
-    ensures { (result ≡ number_of (read_of bytes.now)) × (answer.new ≡ read_places bytes.now (read_of bytes.now)) }
+    ensures { (result ≡ verdict_number (read_of bytes.now)) × (answer.new ≡ read_places bytes.now (read_of bytes.now)) }
 {
     let mut words = [0u64; packing::WORDS];
     let mut four = [0u64; 4];
@@ -73,7 +73,7 @@ pub extern "C" fn senghovai_read(bytes: &[u8], answer: &mut [u64; 5]) -> u64
 
 // Place and length of a function that writes bytes.
 fn tell(w: Written, answer: &mut [u64; 2]) -> u64
-    ensures { (result ≡ number_of (told_written w)) × (answer.new ≡ write_places (told_written w)) }
+    ensures { (result ≡ verdict_number (told_written w)) × (answer.new ≡ write_places (told_written w)) }
 {
     match w {
         Written::Bytes(count) => {
@@ -134,7 +134,7 @@ pub extern "C" fn senghovai_same(first: &[u8], second: &[u8], answer: &mut [u64;
 
 #[unsafe(no_mangle)]
 pub extern "C" fn senghovai_probability(circuit: &[u8], stated: &[u8], answer: &mut [u64; 4]) -> u64
-    ensures { (result ≡ number_of (probability_of circuit.now stated.now)) × (answer.new ≡ chance_places (probability_of circuit.now stated.now)) }
+    ensures { (result ≡ verdict_number (probability_of circuit.now stated.now)) × (answer.new ≡ chance_places (probability_of circuit.now stated.now)) }
 {
     match library::probability(circuit, stated) {
         Chance::Possible(l) => {
