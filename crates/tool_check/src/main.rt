@@ -2,24 +2,22 @@
 #![tactic(auto)]
 
 use checking::Checked;
+use std::io;
 
-fn check(text: &[u8]) {
+fn check(rt: &impl Print, text: &[u8]) -> io::Result<()> {
     match library::check(text) {
         Checked::Circuit { qubits, operations } => {
-            tool::say_number(qubits as u64);
-            tool::say(b" qubits, ");
-            tool::say_number(operations as u64);
-            tool::say(b" operations\n");
+            println!(rt; "{qubits} qubits, {operations} operations")
         }
-        Checked::Refused(r) => tool::refuse(r),
+        Checked::Refused(r) => tool::refuse(rt, r),
     }
 }
 
-fn main() {
+fn main(rt: HostRuntime) -> io::Result<()> {
     let mut text = tool::circuit_buffer();
-    let n = tool::fill_circuit(&mut text);
+    let n = tool::fill_circuit(&rt, &mut text)?;
     if n == text.len() {
-        return;
+        return Ok(());
     }
-    check(&text[..n]);
+    check(&rt, &text[..n])
 }
