@@ -1,3 +1,4 @@
+-- `tool::create_free` meets its contract: the digit rises to `9`. Assumes nothing.
 use Rattle.std.proofs.Common.{length, ◌-◌, ◌≤◌, ◌<◌, ◌≡◌}
 use Rattle.tool.proofs.create_free.Given as goal
 

@@ -1,3 +1,4 @@
+-- `tool::marked` meets its contract: the name keeps its length. Assumes nothing.
 use Rattle.std.proofs.Common.{length, ◌-◌, ◌≤◌, ◌≡◌}
 use Rattle.tool.proofs.marked.Given as goal
 
