@@ -200,7 +200,11 @@ pub fn say_number(rt: &impl Print, number: u64) -> io::Result<()> {
 
 // Number and place of a refusal, and the line's end.
 pub fn say_refused(rt: &impl Print, number: u64, place: u64) -> io::Result<()> {
-    println!(rt; "refused {number} {place}")
+    say(rt, b"refused ")?;
+    say_number(rt, number)?;
+    say(rt, b" ")?;
+    say_number(rt, place)?;
+    say(rt, b"\n")
 }
 
 pub fn refuse(rt: &impl Print, r: Refusal) -> io::Result<()> {

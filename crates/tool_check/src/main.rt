@@ -7,7 +7,10 @@ use std::io;
 fn check(rt: &impl Print, text: &[u8]) -> io::Result<()> {
     match library::check(text) {
         Checked::Circuit { qubits, operations } => {
-            println!(rt; "{qubits} qubits, {operations} operations")
+            tool::say_number(rt, qubits as u64)?;
+            tool::say(rt, b" qubits, ")?;
+            tool::say_number(rt, operations as u64)?;
+            tool::say(rt, b" operations\n")
         }
         Checked::Refused(r) => tool::refuse(rt, r),
     }

@@ -13,13 +13,21 @@ const LONGEST_LINE: usize = limits::MOST_OPERATIONS + 1;
 
 // k, and the probability as an exact power.
 fn say_possible(rt: &impl Print, k: u64) -> io::Result<()> {
-    println!(rt; "possible {k} 2^-{k}")
+    tool::say(rt, b"possible ")?;
+    tool::say_number(rt, k)?;
+    tool::say(rt, b" 2^-")?;
+    tool::say_number(rt, k)?;
+    tool::say(rt, b"\n")
 }
 
 fn tell(rt: &impl Print, text: &[u8], readout: &[u8]) -> io::Result<()> {
     match library::probability(text, readout) {
         Chance::Possible(l) => say_possible(rt, l.k),
-        Chance::Impossible(line) => println!(rt; "impossible {line}"),
+        Chance::Impossible(line) => {
+            tool::say(rt, b"impossible ")?;
+            tool::say_number(rt, line as u64)?;
+            tool::say(rt, b"\n")
+        }
         Chance::Refused(r) => tool::refuse(rt, r),
     }
 }

@@ -5,20 +5,21 @@ use answers::Refusal;
 use archive::Same;
 use std::io;
 
-fn refuse(rt: &impl Print, which: &str, r: Refusal) -> io::Result<()> {
-    println!(rt;
-        "refused {which} {} {}",
-        answers::number(r),
-        answers::place(r)
-    )
+fn refuse(rt: &impl Print, which: &[u8], r: Refusal) -> io::Result<()> {
+    tool::say(rt, b"refused ")?;
+    tool::say(rt, which)?;
+    tool::say_number(rt, answers::number(r))?;
+    tool::say(rt, b" ")?;
+    tool::say_number(rt, answers::place(r) as u64)?;
+    tool::say(rt, b"\n")
 }
 
 fn compare(rt: &impl Print, first: &[u8], second: &[u8]) -> io::Result<()> {
     match library::same_state(first, second) {
         Same::Equal => tool::say(rt, b"same\n"),
         Same::Different => tool::say(rt, b"different\n"),
-        Same::First(r) => refuse(rt, "first", r),
-        Same::Second(r) => refuse(rt, "second", r),
+        Same::First(r) => refuse(rt, b"first ", r),
+        Same::Second(r) => refuse(rt, b"second ", r),
     }
 }
 
