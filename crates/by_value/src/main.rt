@@ -3,7 +3,8 @@
 #![tactic(auto)]
 
 use clifford::{Gate, One};
-use libc::STDOUT_FILENO;
+use std::env::Env;
+use std::io;
 use tableau::Tableau;
 
 fn by_gates(rounds: usize) -> u64 {
@@ -41,15 +42,22 @@ fn lent(rounds: usize) -> u64 {
     w[0] ^ w[6]
 }
 
-fn main() {
-    let mut word = io::buffer();
-    let n = os::arg(1, &mut word);
-    if n == 4 {
-        io::print_decimal(STDOUT_FILENO, lent(10000000));
-    } else if n == 5 {
-        io::print_decimal(STDOUT_FILENO, by_gates(100000));
-    } else {
-        io::print_decimal(STDOUT_FILENO, by_measurements(100000));
+// The length of the first word of the command line; of one that is missing or long, none.
+fn word_length(rt: &impl Env) -> usize {
+    let mut word = [0u8; 4096];
+    match rt.arg(1, &mut word) {
+        Ok(n) => n,
+        Err(_) => 0,
     }
-    io::write_all(STDOUT_FILENO, b"\n");
+}
+
+fn main(rt: HostRuntime) -> io::Result<()> {
+    let n = word_length(&rt);
+    if n == 4 {
+        println!(rt; "{}", lent(10000000))
+    } else if n == 5 {
+        println!(rt; "{}", by_gates(100000))
+    } else {
+        println!(rt; "{}", by_measurements(100000))
+    }
 }

@@ -1,12 +1,12 @@
 -- The bits with the exponent field 1023 - k and nothing else set stand for one half to the power k, and a double of that value has these bits. Assumes nothing.
 use mathlib.Core.Path.{◌≡◌, sym, ap, ◌∙◌, subst}
-use Prim.Native.Nat.{ℕ, zero, suc, ◌+◌, ◌-◌, ◌*◌, ◌/◌, ◌%◌, ◌≤◌, ◌<◌}
+use Prim.Native.Nat.{ℕ, zero, suc, ◌+◌, ◌-◌, ◌/◌, ◌%◌, ◌≤◌, ◌<◌}
 use native.Mathlib.Omega.{arith}
 use mathlib.Core.Bool.{Bool, false, not, cond}
 use lib.IntN.{ℤ, pos, negsuc}
 use lib.Dec.{T}
 use borrow.Author.Tests.{lt-leb, ne_eqb}
-use lib.Ieee.{Float, inf, fin, binary64, to_bits, of_bits, of_fields, minus, is_nan, nan_bits, odd}
+use lib.Ieee.{Float, inf, fin, binary64, of_bits, of_fields, minus, is_nan, nan_bits, odd}
 use lib.Count.{count_trailing_zeros}
 use lib.Ieee.Bits.{to_bits-of_bits, nan_bits_is}
 use Rattle.limits.specs.Limits.{most_halvings}

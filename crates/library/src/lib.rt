@@ -1,5 +1,5 @@
 // The public face of the library: every function that a user calls, with the promise that he relies on. Nothing is required of any argument. Each promise cites
-// a definition in the words of documents 01 and 02: `check_of` (crate checking), `meaning` (circuit), `run_of` (run), `Read-of` (records), `copy_of` and `same_of`
+// a definition in the words of documents 01 and 02: `check_of` (crate checking), `meaning` (circuit), `run_of` (run), `read_of` (records), `copy_of` and `same_of`
 // (archive), `product_of` (product) and `probability_of` (probability); `Writes`, `Runs`, `Hands` and `Tells` say what becomes of the answer, the coins and the lent bytes.
 #![tactic(auto)]
 

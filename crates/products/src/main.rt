@@ -4,7 +4,8 @@
 ghost use Rattle.std.specs.Prelude.{◌<◌, ◌≤◌, length};
 
 use answers::{Refusal, Written};
-use libc::{STDIN_FILENO, STDOUT_FILENO};
+use std::io;
+use std::io::Read;
 
 // Where b stands first from `at` on, or the end.
 fn find(s: &[u8], at: usize, b: u8) -> usize
@@ -21,49 +22,48 @@ fn find(s: &[u8], at: usize, b: u8) -> usize
     k
 }
 
-fn refuse(r: Refusal) {
-    io::write_all(STDOUT_FILENO, b"refused ");
-    io::print_decimal(STDOUT_FILENO, answers::number(r));
-    io::write_all(STDOUT_FILENO, b" ");
-    io::print_decimal(STDOUT_FILENO, answers::place(r) as u64);
+fn refuse(rt: &impl Print, r: Refusal) -> io::Result<()> {
+    print!(rt; "refused {} {}", answers::number(r), answers::place(r))
 }
 
-fn multiply(first: &[u8], second: &[u8]) {
+fn multiply(rt: &impl Print, first: &[u8], second: &[u8]) -> io::Result<()> {
     let mut out = [0u8; limits::LONGEST_ROW];
     match product::product(first, second, &mut out) {
         Written::Bytes(n) => {
             if n <= out.len() {
-                io::write_all(STDOUT_FILENO, &out[..n]);
+                rt.write_all(&out[..n])?;
             }
         }
-        Written::Refused(r) => refuse(r),
+        Written::Refused(r) => refuse(rt, r)?,
     }
-    io::write_all(STDOUT_FILENO, b"\n");
+    rt.write_all(b"\n")
 }
 
 // The line from `at` to `end`: a pair of rows, or one that lacks its second.
-fn line(text: &[u8], at: usize, end: usize)
+fn line(rt: &impl Print, text: &[u8], at: usize, end: usize) -> io::Result<()>
     requires { (at ≤ end) × (end ≤ length text.now) }
 {
     let space = find(text, at, b' ');
     if space < end {
-        multiply(&text[at..space], &text[space + 1..end]);
+        multiply(rt, &text[at..space], &text[space + 1..end])
     } else {
-        multiply(&text[at..end], b"");
+        multiply(rt, &text[at..end], b"")
     }
 }
 
-fn all(text: &[u8]) {
+fn all(rt: &impl Print, text: &[u8]) -> io::Result<()> {
     let mut at = 0;
     while at < text.len() {
         let end = find(text, at, b'\n');
-        line(text, at, end);
+        line(rt, text, at, end)?;
         at = end + 1;
     }
+    Ok(())
 }
 
-fn main() {
-    let mut buffer = io::large_buffer();
-    let n = io::read_full(STDIN_FILENO, &mut buffer);
-    all(&buffer[..n]);
+// Of an input no more than 65,536 bytes are read.
+fn main(rt: HostRuntime) -> io::Result<()> {
+    let mut text = Vec::new(rt.alloc());
+    rt.reader().take(65536).read_to_end(&mut text)?;
+    all(&rt, text.as_slice())
 }

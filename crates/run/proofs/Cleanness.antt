@@ -12,7 +12,6 @@ use Rattle.clifford.specs.declared.Gate.TheVariants.{One as one, Two as two}
 use Rattle.clifford.specs.Gates.{new, gate, Fits}
 use Rattle.clifford.specs.Tableau.{Rows}
 use Rattle.clifford.specs.Measurement.{has_x, cleared, settled, collapsed}
-use Rattle.clifford.specs.Run.{coin}
 use Rattle.clifford.proofs.Keeping.{Keeps}
 use Rattle.columns.proofs.Gates.{gate_blank}
 use Rattle.records.proofs.Held.{Tidy, Clean}

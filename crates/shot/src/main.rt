@@ -3,18 +3,20 @@
 #![tactic(auto)]
 
 use answers::Written;
-use libc::{STDIN_FILENO, STDOUT_FILENO};
+use std::io;
+use std::io::Read;
 
-fn main() {
-    let mut input = [0u8; 60001];
-    let n = io::read_full(STDIN_FILENO, &mut input);
+fn main(rt: HostRuntime) -> io::Result<()> {
+    let mut input = Vec::new(rt.alloc());
+    rt.reader().take(60001).read_to_end(&mut input)?;
     let mut out = [0u8; limits::LONGEST_TEXT];
-    match print::shot(&input[..n], &mut out) {
+    match print::shot(input.as_slice(), &mut out) {
         Written::Bytes(size) => {
             if size <= limits::LONGEST_TEXT {
-                io::write_all(STDOUT_FILENO, &out[..size]);
+                rt.write_all(&out[..size])?;
             }
         }
         Written::Refused(_) => {}
     }
+    Ok(())
 }

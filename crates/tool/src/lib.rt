@@ -2,12 +2,16 @@
 // record to a file. Files are read whole or by their tail into buffers of fixed size, so that an archive may have any size.
 #![tactic(auto)]
 
-ghost use Rattle.std.specs.Prelude.{◌≡◌, ◌+◌, ◌*◌, length};
+ghost use Rattle.std.specs.Prelude.{◌≡◌, ◌+◌, ◌*◌, ◌≤◌, length, take};
+ghost use Rattle.std.specs.Io.{ReadsAtMost};
 ghost use Rattle.limits.specs.Limits.{most_qubits, most_operations};
-ghost use Rattle.io.specs.Counts.{IsPrefixLen};
 
 use answers::Refusal;
-use libc::{STDERR_FILENO, STDOUT_FILENO};
+use std::env::Env;
+use std::fs::{File, OpenFile, OpenOptions};
+use std::io::{Error, ErrorKind, Read, Seek, SeekFrom, Write};
+use std::rt::Files;
+use std::{fs, io};
 
 // Room for the longest record.
 pub fn tail_buffer() -> [u8; limits::LONGEST_RECORD]
@@ -37,143 +41,234 @@ pub fn print_buffer() -> [u8; limits::LONGEST_TEXT]
     [0; limits::LONGEST_TEXT]
 }
 
-pub fn complain(text: &[u8]) {
-    io::write_all(STDERR_FILENO, text);
+// Room for a word of the command line: the longest name of a file has 4,095 bytes.
+pub fn word_buffer() -> [u8; 4096]
+    ensures { 4096 ≡ length result }
+{
+    [0; 4096]
 }
 
-fn complain_of_name() {
-    complain(b"a file's name is missing or too long: ./senghovai prints the words to give\n");
+// Puts the i-th word of the command line at the start of the buffer, and answers its length; of one that is missing or has no room there, none.
+pub fn word(rt: &impl Env, i: usize, buf: &mut [u8]) -> usize
+    ensures in_bounds { result ≤ length buf.new }
+    ensures taken { result ≡ length (take result buf.new) }
+{
+    match rt.arg(i, buf) {
+        Ok(n) => within(n, buf),
+        Err(_) => 0,
+    }
+}
+
+pub fn complain(rt: &impl Eprint, text: &str) -> io::Result<()> {
+    rt.eprint(text)
+}
+
+fn complain_of_name(rt: &impl Eprint) -> io::Result<()> {
+    complain(
+        rt,
+        "a file's name is missing or too long: ./senghovai prints the words to give\n",
+    )
+}
+
+// What the system says of an error, without the number that std puts behind it.
+fn words(told: &str) -> &str {
+    match told.split_once(" (os error ") {
+        Some((words, _)) => words,
+        None => told,
+    }
 }
 
 // One line on standard error: what could not be done, to which file, and why.
-fn cannot(what: &[u8], name: &[u8]) {
-    io::write_all(STDERR_FILENO, what);
-    os::fail(name);
+fn cannot<R: Eprint + Alloc>(rt: &R, what: &str, name: &[u8], why: Error) -> io::Result<()> {
+    let name = String::from_utf8_lossy(rt.alloc(), name)?;
+    let told = format!(in rt.alloc(); "{why}")?;
+    let why = words(told.as_str());
+    eprintln!(rt; "{what}{name}: {why}")
 }
 
-// The file of that name for reading, or -1 after one line that says why not. Only a file that can be read from any place is taken.
-fn open_named(name: &[u8]) -> i32 {
-    let fd = os::open_read(name);
-    if fd < 0 {
-        cannot(b"cannot open, name a file that can be read: ", name);
-        return -1;
+// The name as a path of std, which has to be UTF-8.
+fn path(name: &[u8]) -> io::Result<&str> {
+    match std::str::from_utf8(name) {
+        Ok(path) => Ok(path),
+        Err(_) => Err(Error::new(ErrorKind::InvalidFilename, "the name is not in UTF-8")),
     }
+}
+
+fn open_read<R: Files>(rt: &R, name: &[u8]) -> io::Result<R::File> {
+    fs::open(rt, path(name)?)
+}
+
+// Goes to the start, reads a byte and goes back, which fails where a file cannot be read from any place.
+fn read_one<F: Read + Seek>(file: &mut F) -> io::Result<()> {
+    file.seek(SeekFrom::Start(0))?;
     let mut one = [0u8; 1];
-    if libc::pread(fd, &mut one, 0) < 0 {
-        cannot(b"cannot read, name a regular file: ", name);
-        libc::close(fd);
-        return -1;
+    file.read(&mut one)?;
+    file.seek(SeekFrom::Start(0))?;
+    Ok(())
+}
+
+// The file of that name for reading, or none after one line that says why not. Only a file that can be read from any place is taken.
+fn open_named<R: Files + Eprint + Alloc>(rt: &R, name: &[u8]) -> io::Result<Option<R::File>> {
+    let mut file = match open_read(rt, name) {
+        Ok(file) => file,
+        Err(why) => {
+            cannot(rt, "cannot open, name a file that can be read: ", name, why)?;
+            return Ok(None);
+        }
+    };
+    match read_one(&mut file) {
+        Ok(()) => Ok(Some(file)),
+        Err(why) => {
+            cannot(rt, "cannot read, name a regular file: ", name, why)?;
+            Ok(None)
+        }
     }
-    fd
 }
 
 // The same for the i-th word of the command line.
-pub fn open_word(i: usize) -> i32 {
-    let mut name = io::buffer();
-    let n = os::arg(i, &mut name);
-    if os::errno() != 0 {
-        complain_of_name();
-        return -1;
+pub fn open_word<R: Files + Env + Eprint + Alloc>(rt: &R, i: usize) -> io::Result<Option<R::File>> {
+    let mut name = word_buffer();
+    match rt.arg(i, &mut name) {
+        Ok(n) => open_named(rt, &name[..n]),
+        Err(_) => {
+            complain_of_name(rt)?;
+            Ok(None)
+        }
     }
-    open_named(&name[..n])
 }
 
-// Reads from the descriptor's position until the buffer is full or the file ends, and closes it.
-pub fn fill(fd: i32, buf: &mut [u8]) -> usize
-    ensures { IsPrefixLen result buf.new }
+// Reads from the file's position until the buffer is full or the file ends, and closes it.
+pub fn fill<F: Read + Drop>(mut file: F, buf: &mut [u8]) -> io::Result<usize>
+    ensures { ReadsAtMost result buf.new }
 {
-    let n = io::read_full(fd, buf);
-    libc::close(fd);
-    n
+    let mut done = 0;
+    while done < buf.len() {
+        let n = file.read(&mut buf[done..])?;
+        if n == 0 {
+            break;
+        }
+        done += n;
+    }
+    Ok(done)
 }
 
 // Reads the circuit of the file that the first word names, and answers its length; or, after one line that says why there is none, the buffer's.
-pub fn fill_circuit(buf: &mut [u8]) -> usize
-    ensures { IsPrefixLen result buf.new }
+pub fn fill_circuit<R: Files + Env + Eprint + Alloc>(rt: &R, buf: &mut [u8]) -> io::Result<usize>
+    ensures { ReadsAtMost result buf.new }
 {
-    let fd = open_word(1);
-    if fd < 0 {
-        return buf.len();
-    }
-    let n = fill(fd, buf);
+    let Some(file) = open_word(rt, 1)? else {
+        return Ok(buf.len());
+    };
+    let n = fill(file, buf)?;
     if n == buf.len() {
-        complain(b"the circuit is too long: give a file of at most 131072 bytes\n");
+        complain(
+            rt,
+            "the circuit is too long: give a file of at most 131072 bytes\n",
+        )?;
     }
-    n
+    Ok(n)
 }
 
 // As `fill` for as many bytes at a file's end as the longest record has, or all of it where there are fewer.
-pub fn fill_tail(fd: i32, buf: &mut [u8]) -> usize
-    ensures { IsPrefixLen result buf.new }
+pub fn fill_tail<F: Read + Seek + Drop>(mut file: F, buf: &mut [u8]) -> io::Result<usize>
+    ensures { ReadsAtMost result buf.new }
 {
-    if libc::lseek(fd, -(limits::LONGEST_RECORD as i64), libc::SEEK_END) < 0 {
-        libc::lseek(fd, 0, libc::SEEK_SET);
+    if file
+        .seek(SeekFrom::End(-(limits::LONGEST_RECORD as i64)))
+        .is_err()
+    {
+        file.seek(SeekFrom::Start(0))?;
     }
-    fill(fd, buf)
+    fill(file, buf)
 }
 
 // n where the buffer has as many bytes, else all that it has.
 pub fn within(n: usize, buf: &[u8]) -> usize
-    ensures { IsPrefixLen result buf.now }
+    ensures in_bounds { result ≤ length buf.now }
+    ensures taken { result ≡ length (take result buf.now) }
 {
     if n < buf.len() { n } else { buf.len() }
 }
 
-pub fn say(text: &[u8]) {
-    io::write_all(STDOUT_FILENO, text);
+pub fn say(rt: &impl Print, text: &[u8]) -> io::Result<()> {
+    rt.write_all(text)
 }
 
-pub fn say_number(number: u64) {
-    io::print_decimal(STDOUT_FILENO, number);
+pub fn say_number(rt: &impl Print, number: u64) -> io::Result<()> {
+    rt.print(number)
 }
 
 // Number and place of a refusal, and the line's end.
-pub fn say_refused(number: u64, place: u64) {
-    say(b"refused ");
-    say_number(number);
-    say(b" ");
-    say_number(place);
-    say(b"\n");
+pub fn say_refused(rt: &impl Print, number: u64, place: u64) -> io::Result<()> {
+    say(rt, b"refused ")?;
+    say_number(rt, number)?;
+    say(rt, b" ")?;
+    say_number(rt, place)?;
+    say(rt, b"\n")
 }
 
-pub fn refuse(r: Refusal) {
-    say_refused(answers::number(r), answers::place(r) as u64);
+pub fn refuse(rt: &impl Print, r: Refusal) -> io::Result<()> {
+    say_refused(rt, answers::number(r), answers::place(r) as u64)
 }
 
 // Puts the bytes at the back of an open file and closes it, and answers whether all were written; one line says where they were not.
-fn put_back(fd: i32, name: &[u8], bytes: &[u8]) -> bool {
-    if fd < 0 {
-        cannot(b"cannot write, name a file that can be written: ", name);
-        return false;
+fn put_back<R: Files + Eprint + Alloc>(
+    rt: &R,
+    opened: io::Result<R::File>,
+    name: &[u8],
+    bytes: &[u8],
+) -> io::Result<bool> {
+    let mut file = match opened {
+        Ok(file) => file,
+        Err(why) => {
+            cannot(
+                rt,
+                "cannot write, name a file that can be written: ",
+                name,
+                why,
+            )?;
+            return Ok(false);
+        }
+    };
+    match file.write_all(bytes) {
+        Ok(()) => Ok(true),
+        Err(why) => {
+            cannot(
+                rt,
+                "written in part, make room and do it again: ",
+                name,
+                why,
+            )?;
+            Ok(false)
+        }
     }
-    let is_written = io::write_all(fd, bytes);
-    if !is_written {
-        cannot(b"written in part, make room and do it again: ", name);
-    }
-    libc::close(fd);
-    is_written
+}
+
+// Makes a new file of that name, for writing; fails where there is one.
+fn create<R: Files>(rt: &R, name: &[u8]) -> io::Result<R::File> {
+    File::create_new(rt, path(name)?)
 }
 
 // The file of that name for writing at its back, made where it is missing.
-fn open_back(name: &[u8]) -> i32 {
-    let fd = os::open_append(name);
-    if fd < 0 {
-        return os::create(name);
+fn open_back<R: Files>(rt: &R, name: &[u8]) -> io::Result<R::File> {
+    match OpenOptions::new().append(true).open(rt, path(name)?) {
+        Ok(file) => Ok(file),
+        Err(_) => create(rt, name),
     }
-    fd
 }
 
 // Puts the bytes at the back of the file that the i-th word names.
-pub fn append(i: usize, bytes: &[u8]) -> bool {
-    let mut name = io::buffer();
-    let n = os::arg(i, &mut name);
-    let fd = open_back(&name[..n]);
-    put_back(fd, &name[..n], bytes)
+pub fn append<R: Files + Env + Eprint + Alloc>(rt: &R, i: usize, bytes: &[u8]) -> io::Result<bool> {
+    let mut name = word_buffer();
+    let n = word(rt, i, &mut name);
+    let opened = open_back(rt, &name[..n]);
+    put_back(rt, opened, &name[..n], bytes)
 }
 
 // Puts `.new0` behind a name of n bytes, and answers how many there are with it; without a name or room for it, none.
 fn marked(name: &mut [u8], n: usize) -> usize
-    ensures { IsPrefixLen result name.new }
+    ensures in_bounds { result ≤ length name.new }
+    ensures taken { result ≡ length (take result name.new) }
 {
     let mark = b".new0";
     if n == 0 {
@@ -193,88 +288,113 @@ fn marked(name: &mut [u8], n: usize) -> usize
     n + 5
 }
 
+// Whether a file of the name was there.
+fn is_taken<F>(made: &io::Result<F>) -> bool {
+    match made {
+        Ok(_) => false,
+        Err(why) => why.kind() == ErrorKind::AlreadyExists,
+    }
+}
+
 // Makes a new file of that name, whose last byte, `0`, is counted up to `9` while a file of the name is there.
-fn create_free(name: &mut [u8]) -> i32 {
+fn create_free<R: Files>(rt: &R, name: &mut [u8]) -> io::Result<R::File> {
+    let mut made = create(rt, name);
     if name.len() == 0 {
-        return -1;
+        return made;
     }
     let last = name.len() - 1;
-    let mut fd = os::create(name);
     let mut digit: u8 = b'1';
     while digit <= b'9' {
-        if 0 <= fd {
-            return fd;
-        }
-        if os::errno() != libc::EEXIST {
-            return fd;
+        if !is_taken(&made) {
+            return made;
         }
         name[last] = digit;
-        fd = os::create(name);
+        made = create(rt, name);
         digit += 1;
     }
-    fd
+    made
 }
 
 // Writes the bytes to the open file, sees that they have reached its device, and closes it.
-fn put_all(fd: i32, name: &[u8], bytes: &[u8]) -> bool {
-    let mut is_written = io::write_all(fd, bytes);
-    if is_written {
-        is_written = libc::fsync(fd) == 0;
-    }
-    if !is_written {
-        cannot(
-            b"not written, and left as it was, make room and do it again: ",
-            name,
-        );
-    }
-    libc::close(fd);
-    is_written
+fn put_all<F: Write + OpenFile + Drop>(mut file: F, bytes: &[u8]) -> io::Result<()> {
+    file.write_all(bytes)?;
+    file.sync_all()
 }
 
 // Says why no file could be made beside the one named.
-fn say_not_made(name: &[u8]) {
-    if os::errno() == libc::EEXIST {
+fn say_not_made<R: Eprint + Alloc>(rt: &R, name: &[u8], why: Error) -> io::Result<()> {
+    if why.kind() == ErrorKind::AlreadyExists {
         cannot(
-            b"cannot write, remove what broken runs left, named .new0 to .new9: ",
+            rt,
+            "cannot write, remove what broken runs left, named .new0 to .new9: ",
             name,
-        );
+            why,
+        )
     } else {
-        cannot(b"cannot write, name a file that can be written: ", name);
+        cannot(
+            rt,
+            "cannot write, name a file that can be written: ",
+            name,
+            why,
+        )
     }
+}
+
+fn rename(rt: &impl Files, from: &[u8], to: &[u8]) -> io::Result<()> {
+    fs::rename(rt, path(from)?, path(to)?)
+}
+
+fn remove(rt: &impl Files, name: &[u8]) -> io::Result<()> {
+    fs::remove_file(rt, path(name)?)
 }
 
 // Writes the bytes to a new file beside the one named, and gives it its name; where that fails, the new one is removed.
-fn replace(name: &[u8], beside: &mut [u8], bytes: &[u8]) -> bool {
-    let fd = create_free(beside);
-    if fd < 0 {
-        say_not_made(name);
-        return false;
-    }
-    if !put_all(fd, name, bytes) {
-        os::unlink(beside);
-        return false;
-    }
-    if os::rename(beside, name) < 0 {
+fn replace<R: Files + Eprint + Alloc>(
+    rt: &R,
+    name: &[u8],
+    beside: &mut [u8],
+    bytes: &[u8],
+) -> io::Result<bool> {
+    let file = match create_free(rt, beside) {
+        Ok(file) => file,
+        Err(why) => {
+            say_not_made(rt, name, why)?;
+            return Ok(false);
+        }
+    };
+    if let Err(why) = put_all(file, bytes) {
+        let _ = remove(rt, beside);
         cannot(
-            b"cannot be replaced, name a file that can be written: ",
+            rt,
+            "not written, and left as it was, make room and do it again: ",
             name,
-        );
-        os::unlink(beside);
-        return false;
+            why,
+        )?;
+        return Ok(false);
     }
-    true
+    if let Err(why) = rename(rt, beside, name) {
+        let _ = remove(rt, beside);
+        cannot(
+            rt,
+            "cannot be replaced, name a file that can be written: ",
+            name,
+            why,
+        )?;
+        return Ok(false);
+    }
+    Ok(true)
 }
 
 // Makes the file that the i-th word names hold the bytes alone. They are written beside it first, so that a crash leaves the old file or the new.
-pub fn save(i: usize, bytes: &[u8]) -> bool {
-    let mut name = io::buffer();
-    let n = os::arg(i, &mut name);
-    let mut beside = io::buffer();
-    let m = os::arg(i, &mut beside);
+pub fn save<R: Files + Env + Eprint + Alloc>(rt: &R, i: usize, bytes: &[u8]) -> io::Result<bool> {
+    let mut name = word_buffer();
+    let n = word(rt, i, &mut name);
+    let mut beside = word_buffer();
+    let m = word(rt, i, &mut beside);
     let size = marked(&mut beside, m);
     if size == 0 {
-        complain_of_name();
-        return false;
+        complain_of_name(rt)?;
+        return Ok(false);
     }
-    replace(&name[..n], &mut beside[..size], bytes)
+    replace(rt, &name[..n], &mut beside[..size], bytes)
 }

@@ -2,24 +2,25 @@
 #![tactic(auto)]
 
 use checking::Checked;
+use std::io;
 
-fn check(text: &[u8]) {
+fn check(rt: &impl Print, text: &[u8]) -> io::Result<()> {
     match library::check(text) {
         Checked::Circuit { qubits, operations } => {
-            tool::say_number(qubits as u64);
-            tool::say(b" qubits, ");
-            tool::say_number(operations as u64);
-            tool::say(b" operations\n");
+            tool::say_number(rt, qubits as u64)?;
+            tool::say(rt, b" qubits, ")?;
+            tool::say_number(rt, operations as u64)?;
+            tool::say(rt, b" operations\n")
         }
-        Checked::Refused(r) => tool::refuse(r),
+        Checked::Refused(r) => tool::refuse(rt, r),
     }
 }
 
-fn main() {
+fn main(rt: HostRuntime) -> io::Result<()> {
     let mut text = tool::circuit_buffer();
-    let n = tool::fill_circuit(&mut text);
+    let n = tool::fill_circuit(&rt, &mut text)?;
     if n == text.len() {
-        return;
+        return Ok(());
     }
-    check(&text[..n]);
+    check(&rt, &text[..n])
 }

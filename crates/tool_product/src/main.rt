@@ -2,24 +2,25 @@
 #![tactic(auto)]
 
 use answers::Written;
+use std::io;
 
-fn multiply(first: &[u8], second: &[u8]) {
+fn multiply(rt: &impl Print, first: &[u8], second: &[u8]) -> io::Result<()> {
     let mut out = [0u8; limits::LONGEST_ROW];
     match library::product(first, second, &mut out) {
         Written::Bytes(size) => {
             let n = tool::within(size, &out);
-            tool::say(&out[..n]);
-            tool::say(b"\n");
+            tool::say(rt, &out[..n])?;
+            tool::say(rt, b"\n")
         }
-        Written::Refused(r) => tool::refuse(r),
+        Written::Refused(r) => tool::refuse(rt, r),
     }
 }
 
 // A word of more than 4,096 bytes counts as an empty row: both are refused for their length.
-fn main() {
-    let mut first = io::buffer();
-    let n = os::arg(1, &mut first);
-    let mut second = io::buffer();
-    let m = os::arg(2, &mut second);
-    multiply(&first[..n], &second[..m]);
+fn main(rt: HostRuntime) -> io::Result<()> {
+    let mut first = tool::word_buffer();
+    let n = tool::word(&rt, 1, &mut first);
+    let mut second = tool::word_buffer();
+    let m = tool::word(&rt, 2, &mut second);
+    multiply(&rt, &first[..n], &second[..m])
 }

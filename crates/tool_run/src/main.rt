@@ -3,52 +3,64 @@
 #![tactic(auto)]
 
 use answers::Written;
+use std::env::Env;
+use std::io;
+use std::rt::Files;
 
 // Appends the record, which the sheet's first bytes are, to the archive.
-fn keep(sheet: &[u8; limits::LONGEST_RECORD], size: usize) -> bool {
+fn keep<R: Files + Env + Eprint + Alloc>(
+    rt: &R,
+    sheet: &[u8; limits::LONGEST_RECORD],
+    size: usize,
+) -> io::Result<bool> {
     let bytes: &[u8] = sheet;
     let n = tool::within(size, bytes);
-    tool::append(3, &bytes[..n])
+    tool::append(rt, 3, &bytes[..n])
 }
 
 // The record is appended before anything is printed, so that what is printed is in the archive. A refused run has no record, and its refusal is printed.
-fn run(circuit: &[u8], coins: &[u8]) {
+fn run<R: Files + Env + Print + Eprint + Alloc>(
+    rt: &R,
+    circuit: &[u8],
+    coins: &[u8],
+) -> io::Result<()> {
     let mut sheet = tool::tail_buffer();
     let mut answer = [0u64; 6];
     let mut out = tool::print_buffer();
     match print::run_and_print(circuit, coins, &mut sheet, &mut answer, &mut out) {
         Written::Bytes(size) => {
             if answer[0] == 0 {
-                if !keep(&sheet, answer[2] as usize) {
-                    return;
+                if !keep(rt, &sheet, answer[2] as usize)? {
+                    return Ok(());
                 }
             }
             let n = tool::within(size, &out);
-            tool::say(&out[..n]);
+            tool::say(rt, &out[..n])
         }
-        Written::Refused(r) => tool::refuse(r),
+        Written::Refused(r) => tool::refuse(rt, r),
     }
 }
 
-fn with_coins(circuit: &[u8]) {
-    let fd = tool::open_word(2);
-    if fd < 0 {
-        return;
-    }
+fn with_coins<R: Files + Env + Print + Eprint + Alloc>(rt: &R, circuit: &[u8]) -> io::Result<()> {
+    let Some(file) = tool::open_word(rt, 2)? else {
+        return Ok(());
+    };
     let mut coins = tool::coin_buffer();
-    let n = tool::fill(fd, &mut coins);
+    let n = tool::fill(file, &mut coins)?;
     if n > 65536 {
-        tool::complain(b"there are too many coins: give a file of at most 65536 bytes\n");
-        return;
+        return tool::complain(
+            rt,
+            "there are too many coins: give a file of at most 65536 bytes\n",
+        );
     }
-    run(circuit, &coins[..n]);
+    run(rt, circuit, &coins[..n])
 }
 
-fn main() {
+fn main(rt: HostRuntime) -> io::Result<()> {
     let mut text = tool::circuit_buffer();
-    let n = tool::fill_circuit(&mut text);
+    let n = tool::fill_circuit(&rt, &mut text)?;
     if n == text.len() {
-        return;
+        return Ok(());
     }
-    with_coins(&text[..n]);
+    with_coins(&rt, &text[..n])
 }

@@ -1,5 +1,4 @@
 -- `half::bits` meets its contract: the double is no NaN, so its bits are defined, and the promise that comes with it says which they are. Assumes nothing.
-use borrow.Author.Rules.{rules}
 use Rattle.half.proofs.Laws.{is_number}
 use Rattle.half.proofs.bits.Goals as goal
 

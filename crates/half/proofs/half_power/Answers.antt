@@ -1,10 +1,9 @@
 -- `half::half_power` meets its contract. Assumes nothing.
-use mathlib.Core.Path.{◌≡◌, sym, subst}
+use mathlib.Core.Path.{sym, subst}
 use Prim.Native.Nat.{ℕ}
 use mathlib.Core.Bool.{not}
 use lib.Dec.{T}
 use lib.Ieee.{binary64, nan_bits, of_bits}
-use borrow.Author.Rules.{rules}
 use Rattle.half.specs.Half.{Halved}
 use Rattle.half.proofs.Laws.{no_nan, halved_at}
 use Rattle.half.proofs.half_power.Goals as goal

@@ -1,3 +1,4 @@
+-- `print::answered` meets its contract. Assumes nothing.
 use Rattle.print.proofs.Ended.{ran, refused_as, prints_refusal}
 use borrow.Author.Rules.{rules}
 use Rattle.print.proofs.answered.Goals as goal

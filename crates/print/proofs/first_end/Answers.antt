@@ -1,7 +1,5 @@
-use borrow.Author.Rules.{rules}
-use Prim.Native.Nat.{◌-◌}
-use lib.ListN.{length}
-use Rattle.print.proofs.Splitting.{Unended, none_seen, one_more, ends_here, never_ends}
+-- `print::first_end` meets its contract. Assumes nothing.
+use Rattle.print.proofs.Splitting.{none_seen, one_more, ends_here, never_ends}
 use Rattle.print.proofs.first_end.Goals as goal
 
 pub loop-k-init : goal.loop-k-init

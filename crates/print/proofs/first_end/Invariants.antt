@@ -1,7 +1,6 @@
-use borrow.Author.Rules.{rules}
 use Prim.Native.Nat.{◌-◌}
 use lib.ListN.{length}
-use Rattle.print.proofs.Splitting.{Unended, none_seen, one_more, ends_here, never_ends}
+use Rattle.print.proofs.Splitting.{Unended}
 use Rattle.print.proofs.first_end.Given as goal
 
 abbrev pub invariant-loop-k : goal.invariant-loop-k

@@ -1,5 +1,5 @@
+-- `print::put_op` meets its contract. Assumes nothing.
 use Rattle.print_lines.proofs.Putting.{put_nothing}
-use borrow.Author.Rules.{rules}
 use Rattle.print.proofs.put_op.Goals as goal
 
 pub returns-in-Gate : goal.returns-in-Gate

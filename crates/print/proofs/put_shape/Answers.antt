@@ -1,4 +1,4 @@
-use borrow.Author.Rules.{rules}
+-- `print::put_shape` meets its contract. Assumes nothing.
 use Rattle.print.proofs.put_shape.Goals as goal
 
 pub put_run-requires : goal.put_run-requires

@@ -1,3 +1,4 @@
+-- `print::put_too_long` meets its contract. Assumes nothing.
 use mathlib.Core.Path.{refl}
 use Rattle.print.specs.Printed.{too_long}
 use Rattle.print.proofs.Splitting.{too_short, put_all}

@@ -1,7 +1,7 @@
+-- `print::run_and_print` meets its contract. Assumes nothing.
 use native.Mathlib.Omega.{arith}
 use Rattle.circuit_writer.proofs.Storing.{stored_as}
 use Rattle.print.proofs.Splitting.{too_short, measured_as, put_all}
-use borrow.Author.Rules.{rules}
 use Rattle.print.proofs.run_and_print.Goals as goal
 
 pub returns-then-out-size : goal.returns-then-out-size

@@ -1,7 +1,7 @@
+-- `print::shot` meets its contract. Assumes nothing.
 use mathlib.Core.Path.{sym}
 use lib.Seq.{length-take-le}
 use Rattle.print.proofs.Splitting.{prints_too_long, prints_split, prints_coins}
-use borrow.Author.Rules.{rules}
 use Rattle.print.proofs.shot.Goals as goal
 
 pub returns-then-input-gt60000 : goal.returns-then-input-gt60000

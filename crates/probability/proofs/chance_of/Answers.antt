@@ -1,6 +1,6 @@
+-- `probability::chance_of` meets its contract. Assumes nothing.
 use mathlib.Core.Path.{sym, ap}
 use native.Mathlib.Omega.{arith}
-use borrow.Author.Rules.{rules}
 use Rattle.probability.specs.Probability.{told_limit}
 use Rattle.probability.proofs.Telling.{retold, too_unlikely, likely, against_is, nowhere_is}
 use Rattle.probability.proofs.chance_of.Goals as goal

@@ -1,4 +1,4 @@
-use borrow.Author.Rules.{rules}
+-- `probability::halted` meets its contract. Assumes nothing.
 use Rattle.probability.proofs.Telling.{halt_judged, halt_unread}
 use Rattle.probability.proofs.halted.Goals as goal
 

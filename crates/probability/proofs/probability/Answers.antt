@@ -1,4 +1,4 @@
-use borrow.Author.Rules.{rules}
+-- `probability::probability` meets its contract. Assumes nothing.
 use Rattle.probability.proofs.Telling.{tells_refusal}
 use Rattle.probability.proofs.FromWalk.{not_read}
 use Rattle.probability.proofs.probability.Goals as goal

@@ -1,5 +1,5 @@
+-- `probability::weighed` meets its contract. Assumes nothing.
 use mathlib.Core.Path.{sym}
-use borrow.Author.Rules.{rules}
 use Rattle.probability.proofs.Telling.{retold}
 use Rattle.probability.proofs.FromWalk.{all_judged, part_judged}
 use Rattle.probability.proofs.weighed.Goals as goal

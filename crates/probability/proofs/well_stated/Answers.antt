@@ -1,4 +1,4 @@
-use borrow.Author.Rules.{rules}
+-- `probability::well_stated` meets its contract. Assumes nothing.
 use Rattle.probability.proofs.Characters.{other_none, other_some, wrong_number, wrong_character}
 use Rattle.probability.proofs.well_stated.Goals as goal
 

@@ -1,6 +1,6 @@
+-- `run::judged` meets its contract. Assumes nothing.
 use native.Mathlib.Omega.{arith}
 use Rattle.run.proofs.Sheets.{may_size, judged_room, judged_coin, judged_refused}
-use borrow.Author.Rules.{rules}
 use Rattle.run.proofs.judged.Goals as goal
 
 pub record_size-requires : goal.record_size-requires

@@ -1,3 +1,4 @@
+-- `run::play` meets its contract. Assumes nothing.
 use mathlib.Core.Path.{refl, sym}
 use native.Mathlib.Omega.{arith}
 use Rattle.run.proofs.Sheets.{ended_room, ended_within, ended_few, ended_size, ended_no_room, ended_sheeted, stuck_run}

@@ -1,5 +1,5 @@
+-- `run::simulate` meets its contract. Assumes nothing.
 use mathlib.Core.Path.{refl}
-use borrow.Author.Rules.{rules}
 use Rattle.run.proofs.Sheets.{not_read}
 use Rattle.run.proofs.simulate.Goals as goal
 

@@ -1,7 +1,6 @@
 -- `tally::more` meets its contract. Assumes nothing.
 use mathlib.Core.Path.{sym}
 use native.Mathlib.Nat.{add-zero}
-use borrow.Author.Rules.{rules}
 use Rattle.tally.proofs.more.Goals as goal
 
 pub returns-then-counts : goal.returns-then-counts

@@ -1,5 +1,4 @@
 -- `tally::next` meets its contract: each counter is what `more` says of it. Assumes nothing.
-use borrow.Author.Rules.{rules}
 use Rattle.tally.proofs.next.Goals as goal
 
 pub returns : goal.returns

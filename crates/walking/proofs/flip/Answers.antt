@@ -1,3 +1,4 @@
+-- `walking::flip` meets its contract. Assumes nothing.
 use mathlib.Core.Path.{◌≡◌, ◌∙◌, ap}
 use Rattle.clifford.specs.declared.One.TheVariants.{PauliX}
 use Rattle.clifford.specs.declared.Gate.TheVariants.{One as one}

@@ -1,7 +1,6 @@
 use mathlib.Core.Path.{refl}
 use Rattle.quick_lines.specs.Parts.Coded.{following}
 use Rattle.walking.proofs.Views.{went_fixed, went_random, went_dry}
-use borrow.Author.Rules.{rules}
 use Rattle.walking.proofs.measure.Goals as goal
 
 pub returns-in-Fixed : goal.returns-in-Fixed

@@ -1,3 +1,4 @@
+-- `walking::shoot` meets its contract. Assumes nothing.
 use mathlib.Core.Path.{refl}
 use Rattle.answers.proofs.First.{lowest_below}
 use Rattle.packing.specs.View.{rows_of}

@@ -1,3 +1,4 @@
+-- `walking::turn` meets its contract. Assumes nothing.
 use mathlib.Core.Path.{◌≡◌, ◌∙◌, ap}
 use Prim.Native.Nat.{ℕ, ◌+◌}
 use native.Mathlib.Omega.{arith}
@@ -7,7 +8,6 @@ use Rattle.quick_lines.specs.Parts.Coded.{following, op_in}
 use Rattle.circuit.proofs.Walk.{valid_op}
 use Rattle.quick_lines.proofs.Codes.{below_more, allowed_valid, is_measure}
 use Rattle.walking.proofs.Views.{measured_step, applied_step}
-use borrow.Author.Rules.{rules}
 use Rattle.walking.proofs.turn.Goals as goal
 
 pub returns-then-code-eq0 : goal.returns-then-code-eq0

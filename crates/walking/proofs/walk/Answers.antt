@@ -1,8 +1,7 @@
+-- `walking::walk` meets its contract. Assumes nothing.
 use borrow.Author.Rules.{rules}
-use Prim.Native.Nat.{◌-◌}
 use native.Mathlib.Omega.{arith}
-use lib.ListN.{length}
-use Rattle.walking.proofs.Walking.{Walking, walk_begin, walk_room, walk_on, walk_dry, walk_refused, walk_full, walk_end}
+use Rattle.walking.proofs.Walking.{walk_begin, walk_room, walk_on, walk_dry, walk_refused, walk_full, walk_end}
 use Rattle.walking.proofs.walk.Goals as goal
 
 pub loop-at-init : goal.loop-at-init

@@ -1,8 +1,6 @@
-use borrow.Author.Rules.{rules}
 use Prim.Native.Nat.{◌-◌}
-use native.Mathlib.Omega.{arith}
 use lib.ListN.{length}
-use Rattle.walking.proofs.Walking.{Walking, walk_begin, walk_room, walk_on, walk_dry, walk_refused, walk_full, walk_end}
+use Rattle.walking.proofs.Walking.{Walking}
 use Rattle.walking.proofs.walk.Given as goal
 
 abbrev pub invariant-loop-at : goal.invariant-loop-at

@@ -1,5 +1,5 @@
+-- `weighing::apply` meets its contract. Assumes nothing.
 use Rattle.walking.proofs.Applying.{names_two, names_one}
-use borrow.Author.Rules.{rules}
 use Rattle.weighing.proofs.apply.Goals as goal
 
 pub two-requires : goal.two-requires

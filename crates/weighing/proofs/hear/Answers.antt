@@ -1,8 +1,8 @@
+-- `weighing::hear` meets its contract. Assumes nothing.
 use Rattle.circuit.proofs.Positions.{past}
 use Rattle.packing.specs.View.{rows_of}
 use Rattle.quick_lines.specs.Parts.Coded.{following}
 use Rattle.weighing.proofs.Hearing.{heard_none, heard_against, heard_fixed, heard_random}
-use borrow.Author.Rules.{rules}
 use Rattle.weighing.proofs.hear.Goals as goal
 
 pub returns-then-stated-at : goal.returns-then-stated-at

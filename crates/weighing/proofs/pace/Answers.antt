@@ -1,3 +1,4 @@
+-- `weighing::pace` meets its contract. Assumes nothing.
 use mathlib.Core.Path.{refl, sym, ◌∙◌, ap}
 use Prim.Native.Nat.{ℕ, ◌+◌}
 use native.Mathlib.Nat.{add-zero}
@@ -8,7 +9,6 @@ use Rattle.quick_lines.specs.Parts.Coded.{following, op_in}
 use Rattle.circuit.proofs.Walk.{valid_op}
 use Rattle.quick_lines.proofs.Codes.{below_more}
 use Rattle.weighing.proofs.Hearing.{Measuring, measuring, paced_measure, paced_against, paced_gate}
-use borrow.Author.Rules.{rules}
 use Rattle.weighing.proofs.pace.Goals as goal
 use Rattle.weighing.proofs.pace.Goals.{After-first-a}
 

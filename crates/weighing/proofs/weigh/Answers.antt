@@ -1,7 +1,6 @@
-use Prim.Native.Nat.{◌-◌}
+-- `weighing::weigh` meets its contract. Assumes nothing.
 use native.Mathlib.Omega.{arith}
-use lib.ListN.{length}
-use Rattle.weighing.proofs.Weighing.{Weighing, weigh_begin, weigh_room, weigh_on, weigh_halted, weigh_full, weigh_end}
+use Rattle.weighing.proofs.Weighing.{weigh_begin, weigh_room, weigh_on, weigh_halted, weigh_full, weigh_end}
 use borrow.Author.Rules.{rules}
 use Rattle.weighing.proofs.weigh.Goals as goal
 

@@ -1,8 +1,6 @@
 use Prim.Native.Nat.{◌-◌}
-use native.Mathlib.Omega.{arith}
 use lib.ListN.{length}
-use Rattle.weighing.proofs.Weighing.{Weighing, weigh_begin, weigh_room, weigh_on, weigh_halted, weigh_full, weigh_end}
-use borrow.Author.Rules.{rules}
+use Rattle.weighing.proofs.Weighing.{Weighing}
 use Rattle.weighing.proofs.weigh.Given as goal
 
 abbrev pub invariant-loop-at : goal.invariant-loop-at
