@@ -59,14 +59,15 @@ pub fn word(rt: &impl Env, i: usize, buf: &mut [u8]) -> usize
     }
 }
 
-pub fn complain(rt: &impl Eprint, text: &str) -> io::Result<()> {
+pub fn complain<R: Eprint + Alloc>(rt: &R, text: &[u8]) -> io::Result<()> {
+    let text = String::from_utf8_lossy(rt.alloc(), text)?;
     rt.eprint(text)
 }
 
-fn complain_of_name(rt: &impl Eprint) -> io::Result<()> {
+fn complain_of_name<R: Eprint + Alloc>(rt: &R) -> io::Result<()> {
     complain(
         rt,
-        "a file's name is missing or too long: ./senghovai prints the words to give\n",
+        b"a file's name is missing or too long: ./senghovai prints the words to give\n",
     )
 }
 
@@ -137,7 +138,7 @@ pub fn open_word<R: Files + Env + Eprint + Alloc>(rt: &R, i: usize) -> io::Resul
     }
 }
 
-// Reads from the file's position until the buffer is full or the file ends, and closes it.
+// Reads from the file's position until the buffer is full or the file ends, and closes it. On an error the buffer holds what was read before.
 pub fn fill<F: Read + Drop>(mut file: F, buf: &mut [u8]) -> io::Result<usize>
     ensures { ReadsAtMost result buf.new }
 {
@@ -163,7 +164,7 @@ pub fn fill_circuit<R: Files + Env + Eprint + Alloc>(rt: &R, buf: &mut [u8]) -> 
     if n == buf.len() {
         complain(
             rt,
-            "the circuit is too long: give a file of at most 131072 bytes\n",
+            b"the circuit is too long: give a file of at most 131072 bytes\n",
         )?;
     }
     Ok(n)

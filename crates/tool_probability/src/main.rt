@@ -70,7 +70,7 @@ enum Fed {
     Ended,
 }
 
-fn feed<R: Print + Eprint, F: Read>(
+fn feed<R: Print + Eprint + Alloc, F: Read>(
     rt: &R,
     text: &[u8],
     file: &mut F,
@@ -80,7 +80,10 @@ fn feed<R: Print + Eprint, F: Read>(
     let mut piece = [0u8; 65536];
     match file.read(&mut piece) {
         Err(_) => {
-            tool::complain(rt, "cannot read on: only the readouts above are answered\n")?;
+            tool::complain(
+                rt,
+                b"cannot read on: only the readouts above are answered\n",
+            )?;
             Ok(Fed::Ended)
         }
         Ok(n) => {
@@ -94,7 +97,11 @@ fn feed<R: Print + Eprint, F: Read>(
 }
 
 // Nothing says that a file ends, so the turns are counted down from a number that no run uses up.
-fn each_readout<R: Print + Eprint, F: Read>(rt: &R, text: &[u8], file: &mut F) -> io::Result<()> {
+fn each_readout<R: Print + Eprint + Alloc, F: Read>(
+    rt: &R,
+    text: &[u8],
+    file: &mut F,
+) -> io::Result<()> {
     let mut line = [0u8; LONGEST_LINE];
     let mut held: usize = 0;
     let mut turns = u64::MAX;
@@ -112,7 +119,7 @@ fn each_readout<R: Print + Eprint, F: Read>(rt: &R, text: &[u8], file: &mut F) -
     if held > 0 {
         tool::complain(
             rt,
-            "the last readout has no end byte and is not answered: end its line\n",
+            b"the last readout has no end byte and is not answered: end its line\n",
         )?;
     }
     Ok(())

@@ -50,7 +50,7 @@ fn with_coins<R: Files + Env + Print + Eprint + Alloc>(rt: &R, circuit: &[u8]) -
     if n > 65536 {
         return tool::complain(
             rt,
-            "there are too many coins: give a file of at most 65536 bytes\n",
+            b"there are too many coins: give a file of at most 65536 bytes\n",
         );
     }
     run(rt, circuit, &coins[..n])
