@@ -1,6 +1,6 @@
--- `tool::marked` meets its contract: the name keeps its length. Assumes nothing.
+-- `tool::replacing::marked` meets its contract: the name keeps its length. Assumes nothing.
 use Rattle.std.proofs.Common.{length, ◌-◌, ◌≤◌, ◌≡◌}
-use Rattle.tool.proofs.marked.Given as goal
+use Rattle.tool.proofs.replacing.marked.Given as goal
 
 abbrev pub invariant-loop-k : goal.invariant-loop-k
 invariant-loop-k l = (length l.name ≡ length l.initial.name) × (l.k ≤ 5)

@@ -1,6 +1,6 @@
--- `tool::create_free` meets its contract: the digit rises to `9`. Assumes nothing.
+-- `tool::replacing::create_free` meets its contract: the digit rises to `9`. Assumes nothing.
 use Rattle.std.proofs.Common.{length, ◌-◌, ◌≤◌, ◌<◌, ◌≡◌}
-use Rattle.tool.proofs.create_free.Given as goal
+use Rattle.tool.proofs.replacing.create_free.Given as goal
 
 abbrev pub invariant-loop-digit : goal.invariant-loop-digit
 invariant-loop-digit g l = (length l.name ≡ length l.initial.name) × (l.last < length l.name) × (l.digit ≤ 58)
