@@ -1,7 +1,7 @@
 -- What is accepted is one value, and every check before it has passed. Assumes nothing.
 use mathlib.Core.Path.{◌≡◌, refl}
 use mathlib.Core.Bool.{Bool, true, false}
-use mathlib.Core.Option.{Option, none, some}
+use Rattle.std.specs.Prelude.{Option, None, Some}
 use Prim.Native.Nat.{ℕ}
 use Rattle.answers.specs.Verdict.{Verdict, accepted, refused, then, unless, unless_at}
 use Rattle.answers.proofs.Numbered.{not_accepted}
@@ -14,9 +14,9 @@ module _ {A : Type 0} where
   unless_passed true number place v a e = (refl, e)
   unless_passed false number place v a e = absurd (not_accepted number place a e)
 
-  pub unless_at_passed : (number : ℕ) (o : Option ℕ) (v : Verdict A) (a : A) → unless_at number o v ≡ accepted a → (o ≡ none) × (v ≡ accepted a)
-  unless_at_passed number none v a e = (refl, e)
-  unless_at_passed number (some place) v a e = absurd (not_accepted number place a e)
+  pub unless_at_passed : (number : ℕ) (o : Option ℕ) (v : Verdict A) (a : A) → unless_at number o v ≡ accepted a → (o ≡ None) × (v ≡ accepted a)
+  unless_at_passed number None v a e = (refl, e)
+  unless_at_passed number (Some place) v a e = absurd (not_accepted number place a e)
 
 -- what a later step accepts, an earlier one has accepted
 pub record Accepted {A B : Type 0} (v : Verdict A) (f : A → Verdict B) (b : B) : Type 0 where

@@ -5,10 +5,9 @@ use Prim.Native.Nat.{ℕ}
 use lib.ListN.{get_or}
 use Rattle.answers.specs.declared.Refusal.{Refusal}
 use Rattle.answers.specs.declared.Refusal.TheVariants.{NotQubits, QubitCount, Malformed, NoSuchQubit, QubitTwice, TooManyOperations, NoCoin, NoRoom, NoRecord, BadByte, NotPaired, Anticommuting, RowLengths, TooUnlikely, ReadoutLength}
-use Rattle.answers.specs.declared.Written.{Written}
-use Rattle.answers.specs.declared.Written.TheVariants.{Bytes, Refused}
+use Rattle.std.specs.Prelude.{Result, Ok, Err}
 use Rattle.answers.specs.Verdict.{Verdict, accepted, refused}
-use Rattle.answers.specs.Refusals.{number_of, place_of, told_written, Writes}
+use Rattle.answers.specs.Refusals.{number_of, place_of, told, Writes}
 
 -- the refusal of a number and a place
 abbrev named : ℕ → ℕ → Refusal
@@ -34,20 +33,20 @@ named_again RowLengths = refl
 named_again TooUnlikely = refl
 named_again ReadoutLength = refl
 
-abbrev back : Verdict ℕ → Written
-back (accepted count) = Bytes count
-back (refused number place) = Refused (named number place)
+abbrev back : {A : Type 0} → Verdict A → Result A Refusal
+back (accepted a) = Ok a
+back (refused number place) = Err (named number place)
 
-back_again : (r : Written) → back (told_written r) ≡ r
-back_again (Bytes count) = refl
-back_again (Refused r) = ap Refused (named_again r)
+back_again : {A : Type 0} (r : Result A Refusal) → back (told r) ≡ r
+back_again (Ok a) = refl
+back_again (Err r) = ap Err (named_again r)
 
 pub one_refusal : (r s : Refusal) → number_of r ≡ number_of s → place_of r ≡ place_of s → r ≡ s
 one_refusal r s n p = sym (named_again r) ∙ (λ i. named (n i) (p i)) ∙ named_again s
 
-pub one_answer : (r s : Written) → told_written r ≡ told_written s → r ≡ s
+pub one_answer : {A : Type 0} (r s : Result A Refusal) → told r ≡ told s → r ≡ s
 one_answer r s e = sym (back_again r) ∙ ap back e ∙ back_again s
 
 -- two answers that the same promise allows are equal, and so are the lent bytes afterwards
-pub writes_one : (v : Verdict (List ℕ)) (old : List ℕ) (r s : Written) (new last : List ℕ) → Writes v old r new → Writes v old s last → (r ≡ s) × (new ≡ last)
+pub writes_one : (v : Verdict (List ℕ)) (old : List ℕ) (r s : Result ℕ Refusal) (new last : List ℕ) → Writes v old r new → Writes v old s last → (r ≡ s) × (new ≡ last)
 writes_one v old r s new last a b = (one_answer r s (a.answer ∙ sym b.answer), a.buffer ∙ sym b.buffer)

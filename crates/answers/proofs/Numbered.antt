@@ -2,7 +2,7 @@
 use mathlib.Core.Path.{◌≡◌, refl, ap}
 use mathlib.Core.Bool.{Bool, true, false}
 use mathlib.Core.List.{List}
-use mathlib.Core.Option.{Option, none, some}
+use Rattle.std.specs.Prelude.{Option, None, Some}
 use Prim.Native.Nat.{ℕ, ◌≤◌}
 use native.Mathlib.Omega.{arith}
 use lib.Dec.{leb}
@@ -25,8 +25,8 @@ module _ (P : ℕ → Type 0) where
   by_unless false number place v h g = h
 
   pub by_unless_at : {A : Type 0} (number : ℕ) (o : Option ℕ) (v : Verdict A) → P number → RefusedBy P v → RefusedBy P (unless_at number o v)
-  by_unless_at number none v h g = g
-  by_unless_at number (some place) v h g = h
+  by_unless_at number None v h g = g
+  by_unless_at number (Some place) v h g = h
 
 -- numbers among these are numbers among those
 pub by_more : {A : Type 0} (P Q : ℕ → Type 0) → ((m : ℕ) → P m → Q m) → (v : Verdict A) → RefusedBy P v → RefusedBy Q v

@@ -1,10 +1,8 @@
 -- The number and the place of each refusal: document 01's table, with those of document 02 that are given; and the promise of a function that writes into a lent buffer. Assumes nothing.
-use Rattle.std.specs.Prelude.{◌≡◌, List, ℕ, ◌+◌, length}
+use Rattle.std.specs.Prelude.{◌≡◌, List, ℕ, ◌+◌, length, Result, Ok, Err}
 use Rattle.limits.specs.Limits.{most_operations}
 use Rattle.answers.specs.declared.Refusal.{Refusal}
 use Rattle.answers.specs.declared.Refusal.TheVariants.{NotQubits, QubitCount, Malformed, NoSuchQubit, QubitTwice, TooManyOperations, NoCoin, NoRoom, NoRecord, BadByte, NotPaired, Anticommuting, RowLengths, TooUnlikely, ReadoutLength}
-use Rattle.answers.specs.declared.Written.{Written}
-use Rattle.answers.specs.declared.Written.TheVariants.{Bytes, Refused}
 use Rattle.answers.specs.Verdict.{Verdict, accepted, refused, then, within, after, counted}
 
 abbrev pub number_of : Refusal → ℕ
@@ -41,11 +39,12 @@ place_of RowLengths = 0
 place_of TooUnlikely = 0
 place_of ReadoutLength = 0
 
-abbrev pub told_written : Written → Verdict ℕ
-told_written (Bytes count) = accepted count
-told_written (Refused r) = refused (number_of r) (place_of r)
+-- a value that a function hands out, or the number and the place of its refusal
+abbrev pub told : {A : Type 0} → Result A Refusal → Verdict A
+told (Ok a) = accepted a
+told (Err r) = refused (number_of r) (place_of r)
 
 -- what a function answers whose answer is these bytes, or this refusal, with a buffer that held old and holds new
-pub record Writes (v : Verdict (List ℕ)) (old : List ℕ) (r : Written) (new : List ℕ) : Type 0 where
-  pub answer : told_written r ≡ counted (then v (within (length old)))
+pub record Writes (v : Verdict (List ℕ)) (old : List ℕ) (r : Result ℕ Refusal) (new : List ℕ) : Type 0 where
+  pub answer : told r ≡ counted (then v (within (length old)))
   pub buffer : new ≡ after (then v (within (length old))) old

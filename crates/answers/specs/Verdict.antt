@@ -1,6 +1,6 @@
 -- What a public function answers: a value, or a refusal's number and its place; and what becomes of a lent buffer. Assumes nothing.
 use Rattle.std.specs.Prelude.{Bool, true, false, List, ◌++◌, ℕ, leb, length, drop}
-use Rattle.std.proofs.Math.Option.{Option, none, some}
+use Rattle.std.specs.Prelude.{Option, None, Some}
 
 pub data Verdict (A : Type 0) : Type 0 where
   accepted : A → Verdict A
@@ -18,8 +18,8 @@ unless false number place v = refused number place
 
 -- refused with this number at the place that was found, if one was
 abbrev pub unless_at : {A : Type 0} → ℕ → Option ℕ → Verdict A → Verdict A
-unless_at number (some place) v = refused number place
-unless_at number none v = v
+unless_at number (Some place) v = refused number place
+unless_at number None v = v
 
 -- 8: the lent buffer is shorter than the answer
 abbrev pub within : ℕ → List ℕ → Verdict (List ℕ)

@@ -2,7 +2,7 @@
 use mathlib.Core.Path.{◌≡◌, refl, sym, ◌∙◌, ap}
 use mathlib.Core.Bool.{Bool, true, false, ◌&&◌, cond, true≢false, and-false}
 use mathlib.Core.List.{[], ◌∷◌}
-use mathlib.Core.Option.{Option, none, some}
+use Rattle.std.specs.Prelude.{Option, None, Some}
 use Prim.Native.Nat.{ℕ, zero, suc, ◌+◌, ◌-◌, ◌<◌}
 use native.Mathlib.Omega.{arith}
 use lib.Dec.{eqb, ltb}
@@ -53,7 +53,7 @@ clash : {A : Type 0} (b : Bool) → b ≡ true → b ≡ false → A
 clash b e f = absurd (true≢false (sym e ∙ f))
 
 first : (m : ℕ) (alive : ℕ → Bool) (v : ℕ → ℕ → Bool) → 0 < count alive m → (o : Option ℕ) → Answer alive m o → Dependence 0 m alive v
-first m alive v h (some p) l = record {
+first m alive v h (Some p) l = record {
   c = λ i. eqb i p;
   i = p;
   below = l.below;
@@ -61,7 +61,7 @@ first m alive v h (some p) l = record {
   within = λ j e. ne_eqb j p (λ u. clash (alive p) l.passes (ap alive (sym u) ∙ e));
   zeros = λ j h. absurd (omega arith);
 }
-first m alive v h none l = absurd (omega (arith, count_none alive m l))
+first m alive v h None l = absurd (omega (arith, count_none alive m l))
 
 -- no vector of the living has the bit k
 skip : (k m : ℕ) (alive : ℕ → Bool) (v : ℕ → ℕ → Bool) → ((i : ℕ) → i < m → (alive i && v i k) ≡ false) → Dependence k m alive v → Dependence (suc k) m alive v
@@ -131,8 +131,8 @@ dependent zero m alive v h = first m alive v h (lowest alive m) (lowest_is alive
 dependent (suc k) m alive v h = go (dependent k m) (lowest (λ i. alive i && v i k) m) (lowest_is (λ i. alive i && v i k) m)
   where
     go : ((alive : ℕ → Bool) (v : ℕ → ℕ → Bool) → k < count alive m → Dependence k m alive v) → (o : Option ℕ) → Answer (λ i. alive i && v i k) m o → Dependence (suc k) m alive v
-    go ih none l = skip k m alive v l (ih alive v (omega arith))
-    go ih (some p) l =
+    go ih None l = skip k m alive v l (ih alive v (omega arith))
+    go ih (Some p) l =
         let e = both (alive p) (v p k) l.passes in
         pivot k m p alive v l.below e.0 e.1 (ih (without p alive) (cleared k m p alive v) (omega (arith, count_less alive p m l.below e.0)))
 

@@ -1,7 +1,7 @@
 -- The name at a position decides the operation. Assumes nothing.
 use mathlib.Core.Bool.{Bool, true, false, cond}
 use mathlib.Core.List.{List, [], ◌∷◌, ◌++◌}
-use mathlib.Core.Option.{Option, none, some}
+use Rattle.std.specs.Prelude.{Option, None, Some}
 use mathlib.Core.Path.{◌≡◌, refl, sym, ◌∙◌, ap}
 use Prim.Native.Nat.{ℕ, ◌+◌, ◌≤◌, ◌<◌}
 use native.Mathlib.Omega.{arith}
@@ -20,30 +20,30 @@ use Rattle.circuit.proofs.Positions.{front, past, stripped}
 
 -- the numbers behind a name and its space, or what the other names say
 abbrev pub or_else : Form → Option (List ℕ) → Found Op → Found Op
-or_else form o v = elim o [ some rest ↦ operands form rest | none ↦ v ]
+or_else form o v = elim o [ Some rest ↦ operands form rest | None ↦ v ]
 
 -- a name with nothing but its space to come: no other has the same bytes so far
 pub spaced_qubits : (form : Form) (t : List ℕ) → or_else form (strip (space ∷ []) t) malformed ≡ qubits form t
 spaced_qubits (with_one f) t = go (strip (space ∷ []) t)
   where
-    go : (o : Option (List ℕ)) → or_else (with_one f) o malformed ≡ then_read (elim o [ some rest ↦ number rest | none ↦ malformed ]) (λ a rest. found (f a) rest)
-    go (some rest) = refl
-    go none = refl
+    go : (o : Option (List ℕ)) → or_else (with_one f) o malformed ≡ then_read (elim o [ Some rest ↦ number rest | None ↦ malformed ]) (λ a rest. found (f a) rest)
+    go (Some rest) = refl
+    go None = refl
 spaced_qubits (with_two f) t = go (strip (space ∷ []) t)
   where
-    go : (o : Option (List ℕ)) → or_else (with_two f) o malformed ≡ then_read (elim o [ some rest ↦ number rest | none ↦ malformed ]) (λ a rest. then_read (qubit rest) (λ b more. found (f a b) more))
-    go (some rest) = refl
-    go none = refl
+    go : (o : Option (List ℕ)) → or_else (with_two f) o malformed ≡ then_read (elim o [ Some rest ↦ number rest | None ↦ malformed ]) (λ a rest. then_read (qubit rest) (λ b more. found (f a b) more))
+    go (Some rest) = refl
+    go None = refl
 
-other_name : (e : Name) (es : List Name) (s : List ℕ) → strip (e.spelled ++ space ∷ []) s ≡ none → named (e ∷ es) s ≡ named es s
+other_name : (e : Name) (es : List Name) (s : List ℕ) → strip (e.spelled ++ space ∷ []) s ≡ None → named (e ∷ es) s ≡ named es s
 other_name e es s h = ap (λ o. or_else e.form o (named es s)) h
 
 -- the bytes of a longer name, by the first of them
-one_off : (b : ℕ) (bs t : List ℕ) → strip (b ∷ []) t ≡ none → strip (b ∷ bs) t ≡ none
+one_off : (b : ℕ) (bs t : List ℕ) → strip (b ∷ []) t ≡ None → strip (b ∷ bs) t ≡ None
 one_off b bs [] h = refl
 one_off b bs (c ∷ t) h = go (eqb b c) h
   where
-    go : (e : Bool) → cond e (some t) none ≡ none → cond e (strip bs t) none ≡ none
+    go : (e : Bool) → cond e (Some t) None ≡ None → cond e (strip bs t) None ≡ None
     go true h = absurd (let z : ◌≡◌ {A = ℕ} 0 1 = cc in omega arith)
     go false h = refl
 
@@ -92,13 +92,13 @@ module _ (s : List ℕ) (at : ℕ) where
 -- none of these names stands at the front
 abbrev NoneStands : List Name → List ℕ → Type 0
 NoneStands [] s = Unit {0}
-NoneStands (e ∷ es) s = (strip (e.spelled ++ space ∷ []) s ≡ none) × NoneStands es s
+NoneStands (e ∷ es) s = (strip (e.spelled ++ space ∷ []) s ≡ None) × NoneStands es s
 
 none_named : (es : List Name) (s : List ℕ) → NoneStands es s → named es s ≡ malformed
 none_named [] s h = refl
 none_named (e ∷ es) s h = other_name e es s h.0 ∙ none_named es s h.1
 
-other_letter : (b c : ℕ) (u t : List ℕ) → (b ≡ c → ⊥) → strip (c ∷ u) (b ∷ t) ≡ none
+other_letter : (b c : ℕ) (u t : List ℕ) → (b ≡ c → ⊥) → strip (c ∷ u) (b ∷ t) ≡ None
 other_letter b c u t h = rw (ne_eqb c b (λ q. h (sym q)))
 
 pub no_letter :

@@ -2,7 +2,7 @@
 -- at the front of a line. Assumes nothing.
 use mathlib.Core.Bool.{Bool, true, false, ◌&&◌, not, cond}
 use mathlib.Core.List.{List, [], ◌∷◌, ◌++◌}
-use mathlib.Core.Option.{Option, none, some}
+use Rattle.std.specs.Prelude.{Option, None, Some}
 use mathlib.Core.Path.{◌≡◌, refl, sym, ◌∙◌, ap}
 use Prim.Native.Nat.{ℕ, ◌+◌, ◌*◌}
 use native.Mathlib.Omega.{arith}
@@ -37,7 +37,7 @@ word_of (c ∷ w) rest h = go (eqb c space) h (word_of w rest)
     go false h ih = ap (λ (t : List ℕ). c ∷ t) (ih h)
 
 -- the name that stands at the front is the word before the first space
-stands_as : (e : Name) (s rest : List ℕ) → spaceless e.spelled ≡ true → strip (e.spelled ++ space ∷ []) s ≡ some rest → word s ≡ e.spelled
+stands_as : (e : Name) (s rest : List ℕ) → spaceless e.spelled ≡ true → strip (e.spelled ++ space ∷ []) s ≡ Some rest → word s ≡ e.spelled
 stands_as e s rest h q = ap word (stripped (e.spelled ++ space ∷ []) s rest q) ∙ word_of e.spelled rest h
 
 abbrev Other : Name → List Name → Type 0
@@ -66,10 +66,10 @@ two_first e f es s he hf d = go (strip (e.spelled ++ space ∷ []) s) (strip (f.
   where
     go : (o p : Option (List ℕ)) → strip (e.spelled ++ space ∷ []) s ≡ o → strip (f.spelled ++ space ∷ []) s ≡ p
         → or_else e.form o (or_else f.form p (named es s)) ≡ or_else f.form p (or_else e.form o (named es s))
-    go (some t) (some u) q r = absurd (d (sym (stands_as e s t he q) ∙ stands_as f s u hf r))
-    go (some t) none q r = refl
-    go none (some u) q r = refl
-    go none none q r = refl
+    go (Some t) (Some u) q r = absurd (d (sym (stands_as e s t he q) ∙ stands_as f s u hf r))
+    go (Some t) None q r = refl
+    go None (Some u) q r = refl
+    go None None q r = refl
 
 pub in_any_order : {es fs : List Name} → Reordered es fs → Apart es → (s : List ℕ) → named es s ≡ named fs s
 in_any_order empty a s = refl

@@ -1,7 +1,7 @@
 -- What stands at a position of a text, as the definitions see it. Assumes nothing.
 use mathlib.Core.Bool.{Bool, true, false, ◌&&◌, cond}
 use mathlib.Core.List.{List, [], ◌∷◌, ◌++◌}
-use mathlib.Core.Option.{none, some}
+use Rattle.std.specs.Prelude.{None, Some}
 use mathlib.Core.Path.{◌≡◌, refl, sym, ◌∙◌, ap}
 use Prim.Native.Nat.{ℕ, ◌+◌, ◌-◌, ◌≤◌, ◌<◌}
 use native.Mathlib.Omega.{arith}
@@ -20,13 +20,13 @@ module _ (s : List ℕ) (at : ℕ) where
   pub past : length s ≤ at → drop at s ≡ []
   past h = drop_of_length-le s h
 
-pub strip_same : (s : List ℕ) (at b : ℕ) → at < length s → get_or s at 0 ≡ b → strip (b ∷ []) (drop at s) ≡ some (drop (at + 1) s)
+pub strip_same : (s : List ℕ) (at b : ℕ) → at < length s → get_or s at 0 ≡ b → strip (b ∷ []) (drop at s) ≡ Some (drop (at + 1) s)
 strip_same s at b h e = rw (front s at h, e, eq-eqb b b refl)
 
-pub strip_other : (s : List ℕ) (at b : ℕ) → at < length s → (get_or s at 0 ≡ b → ⊥) → strip (b ∷ []) (drop at s) ≡ none
+pub strip_other : (s : List ℕ) (at b : ℕ) → at < length s → (get_or s at 0 ≡ b → ⊥) → strip (b ∷ []) (drop at s) ≡ None
 strip_other s at b h e = rw (front s at h, ne_eqb b (get_or s at 0) (λ q. e (sym q)))
 
-pub strip_past : (s : List ℕ) (at b : ℕ) → length s ≤ at → strip (b ∷ []) (drop at s) ≡ none
+pub strip_past : (s : List ℕ) (at b : ℕ) → length s ≤ at → strip (b ∷ []) (drop at s) ≡ None
 strip_past s at b h = rw (past s at h)
 
 -- the byte of a digit
@@ -56,13 +56,13 @@ pub digit_some : (s : List ℕ) (at : ℕ) → at < length s → is_digit (get_o
 digit_some s at h e = rw (front s at h, e)
 
 -- bytes that stand at the front
-strip_cons : (b c : ℕ) (bs s rest : List ℕ) (z : Bool) → eqb b c ≡ z → strip (b ∷ bs) (c ∷ s) ≡ some rest → (b ≡ c) × (strip bs s ≡ some rest)
-strip_cons b c bs s rest true z e = (eqb-true b c z, sym (ap (λ (y : Bool). cond y (strip bs s) none) z) ∙ e)
+strip_cons : (b c : ℕ) (bs s rest : List ℕ) (z : Bool) → eqb b c ≡ z → strip (b ∷ bs) (c ∷ s) ≡ Some rest → (b ≡ c) × (strip bs s ≡ Some rest)
+strip_cons b c bs s rest true z e = (eqb-true b c z, sym (ap (λ (y : Bool). cond y (strip bs s) None) z) ∙ e)
 strip_cons b c bs s rest false z e =
-    let q : none ≡ some rest = sym (ap (λ (y : Bool). cond y (strip bs s) none) z) ∙ e in
+    let q : None ≡ Some rest = sym (ap (λ (y : Bool). cond y (strip bs s) None) z) ∙ e in
     absurd (let k : ◌≡◌ {A = ℕ} 0 1 = cc in omega arith)
 
-pub stripped : (bs s rest : List ℕ) → strip bs s ≡ some rest → s ≡ bs ++ rest
+pub stripped : (bs s rest : List ℕ) → strip bs s ≡ Some rest → s ≡ bs ++ rest
 stripped [] s rest e = cc
 stripped (b ∷ bs) [] rest e = cc
 stripped (b ∷ bs) (c ∷ s) rest e =

@@ -1,7 +1,7 @@
 -- A reading at a position is put together from readings of its parts. Assumes nothing.
 use mathlib.Core.Bool.{true, false}
 use mathlib.Core.List.{List, [], ◌∷◌}
-use mathlib.Core.Option.{Option, none, some}
+use Rattle.std.specs.Prelude.{Option, None, Some}
 use mathlib.Core.Path.{◌≡◌, ◌∙◌, ap}
 use Prim.Native.Nat.{ℕ, ◌+◌, ◌≤◌}
 use native.Mathlib.Omega.{arith}
@@ -30,10 +30,10 @@ number_moved f g s at next number_is.Malformed e h r = e ∙ r
 
 -- the rest after an end byte, and after a space
 abbrev pub closing : {A : Type 0} → A → Option (List ℕ) → Found A
-closing a o = elim o [ some rest ↦ found a rest | none ↦ malformed ]
+closing a o = elim o [ Some rest ↦ found a rest | None ↦ malformed ]
 
 abbrev pub spacing : Option (List ℕ) → Found ℕ
-spacing o = elim o [ some rest ↦ number rest | none ↦ malformed ]
+spacing o = elim o [ Some rest ↦ number rest | None ↦ malformed ]
 
 module _ (s : List ℕ) (at : ℕ) where
   pub closed : {A : Type 0} (a : A) → Has s at 10 true → Stands (closed_by (end_byte ∷ []) a) s at a (at + 1)

@@ -1,6 +1,6 @@
 -- An operation line: its name, a space and a number for each qubit, and the end byte. Document 01, "The circuit text". Assumes nothing.
 use Rattle.std.specs.Prelude.{Bool, ◌&&◌, cond, List, [], ◌∷◌, ◌++◌, ℕ, zero, suc, ◌+◌, ◌-◌, ◌*◌, eqb, leb}
-use Rattle.std.proofs.Math.Option.{Option, none, some}
+use Rattle.std.specs.Prelude.{Option, None, Some}
 use Rattle.clifford.specs.declared.One.TheVariants.{H, S, PauliX, PauliY, PauliZ}
 use Rattle.clifford.specs.declared.Two.TheVariants.{Cx, Cz}
 use Rattle.clifford.specs.declared.Gate.TheVariants.{One as one, Two as two}
@@ -19,13 +19,13 @@ then_read malformed f = malformed
 
 -- the bytes behind these, where they stand at the front
 abbrev pub strip : List ℕ → List ℕ → Option (List ℕ)
-strip [] s = some s
-strip (b ∷ bs) [] = none
-strip (b ∷ bs) (c ∷ s) = cond (eqb b c) (strip bs s) none
+strip [] s = Some s
+strip (b ∷ bs) [] = None
+strip (b ∷ bs) (c ∷ s) = cond (eqb b c) (strip bs s) None
 
 -- the value, if these bytes stand behind it
 abbrev pub closed_by : {A : Type 0} → List ℕ → A → List ℕ → Found A
-closed_by bs a s = elim (strip bs s) [ some rest ↦ found a rest | none ↦ malformed ]
+closed_by bs a s = elim (strip bs s) [ Some rest ↦ found a rest | None ↦ malformed ]
 
 abbrev pub space : ℕ
 space = 32
@@ -71,7 +71,7 @@ names =
 
 -- a space, and a number
 abbrev pub qubit : List ℕ → Found ℕ
-qubit s = elim (strip (space ∷ []) s) [ some rest ↦ number rest | none ↦ malformed ]
+qubit s = elim (strip (space ∷ []) s) [ Some rest ↦ number rest | None ↦ malformed ]
 
 -- what stands behind a name and its space: a number, and where the form has two qubits a space and another
 abbrev pub operands : Form → List ℕ → Found Op
@@ -81,7 +81,7 @@ operands (with_two f) s = then_read (number s) (λ a rest. then_read (qubit rest
 -- the name that stands at the front, with a space behind it, decides; there is at most one, in whatever order they are listed (`any_order` of proofs/Order.antt)
 abbrev pub named : List Name → List ℕ → Found Op
 named [] s = malformed
-named (e ∷ es) s = elim (strip (e.spelled ++ space ∷ []) s) [ some rest ↦ operands e.form rest | none ↦ named es s ]
+named (e ∷ es) s = elim (strip (e.spelled ++ space ∷ []) s) [ Some rest ↦ operands e.form rest | None ↦ named es s ]
 
 abbrev pub op_line : List ℕ → Found Op
 op_line s = then_read (named names s) (closed_by (end_byte ∷ []))

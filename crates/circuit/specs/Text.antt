@@ -1,6 +1,6 @@
 -- The meaning of a circuit text: n and a list of operations, or its one refusal, 1 to 6 in the order of document 01. Assumes nothing.
 use Rattle.std.specs.Prelude.{Bool, true, false, ◌&&◌, not, List, [], ◌∷◌, ℕ, zero, suc, ◌+◌, eqb, leb, ltb}
-use Rattle.std.proofs.Math.Option.{none, some}
+use Rattle.std.specs.Prelude.{None, Some}
 use Rattle.answers.specs.Verdict.{Verdict, accepted, refused, then, unless}
 use Rattle.clifford.specs.declared.Gate.TheVariants.{One as one, Two as two}
 use Rattle.clifford.specs.declared.Op.{Op}
@@ -47,7 +47,7 @@ operations n (suc room) line s =
 
 -- line 1 is `Q n` with its end byte: 1, then 2
 abbrev pub header : List ℕ → Found ℕ
-header s = elim (strip (81 ∷ 32 ∷ []) s) [ some rest ↦ then_read (number rest) (closed_by (end_byte ∷ [])) | none ↦ malformed ]
+header s = elim (strip (81 ∷ 32 ∷ []) s) [ Some rest ↦ then_read (number rest) (closed_by (end_byte ∷ [])) | None ↦ malformed ]
 
 abbrev pub meaning : List ℕ → Verdict Circuit
 meaning s =

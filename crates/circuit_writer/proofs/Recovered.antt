@@ -2,7 +2,7 @@
 use mathlib.Core.Bool.{true}
 use mathlib.Core.List.{List, [], ◌∷◌, ◌++◌, append_assoc}
 use mathlib.Core.Logic.{◌⊎◌, inl, inr, ⊎_elim}
-use mathlib.Core.Option.{Option, none, some}
+use Rattle.std.specs.Prelude.{Option, None, Some}
 use mathlib.Core.Path.{◌≡◌, refl, sym, ◌∙◌, ap}
 use Prim.Native.Nat.{ℕ, zero, suc, ◌<◌}
 use native.Mathlib.Omega.{arith}
@@ -42,10 +42,10 @@ pub record Closed {A : Type 0} (a : A) (t : List ℕ) (b : A) (rest : List ℕ) 
   pub text : t ≡ 10 ∷ rest
 
 closed_if : {A : Type 0} (a : A) (t : List ℕ) (b : A) (rest : List ℕ) (o : Option (List ℕ)) → strip (10 ∷ []) t ≡ o → closing a o ≡ found b rest → Closed a t b rest
-closed_if a t b rest (some u) q e =
+closed_if a t b rest (Some u) q e =
     let w = same_found a b u rest e in
     record { same = w.0; text = stripped (10 ∷ []) t u q ∙ ap (λ (l : List ℕ). 10 ∷ l) (sym w.1) }
-closed_if a t b rest none q e = absurd (let k : ◌≡◌ {A = ℕ} 0 1 = cc in omega arith)
+closed_if a t b rest None q e = absurd (let k : ◌≡◌ {A = ℕ} 0 1 = cc in omega arith)
 
 closed_read : {A : Type 0} (a : A) (t : List ℕ) (b : A) (rest : List ℕ) → closed_by (10 ∷ []) a t ≡ found b rest → Closed a t b rest
 closed_read a t b rest e = closed_if a t b rest (strip (10 ∷ []) t) refl e
@@ -56,10 +56,10 @@ pub record Qubit (s : List ℕ) (a : ℕ) (rest : List ℕ) : Type 0 where
   pub small : a < 1000
 
 qubit_if : (s : List ℕ) (a : ℕ) (rest : List ℕ) (o : Option (List ℕ)) → strip (32 ∷ []) s ≡ o → spacing o ≡ found a rest → Qubit s a rest
-qubit_if s a rest (some u) q e =
+qubit_if s a rest (Some u) q e =
     let w = number_read u a rest e in
     record { text = stripped (32 ∷ []) s u q ∙ ap (λ (l : List ℕ). 32 ∷ l) w.text; small = w.small }
-qubit_if s a rest none q e = absurd (let k : ◌≡◌ {A = ℕ} 0 1 = cc in omega arith)
+qubit_if s a rest None q e = absurd (let k : ◌≡◌ {A = ℕ} 0 1 = cc in omega arith)
 
 qubit_read : (s : List ℕ) (a : ℕ) (rest : List ℕ) → qubit s ≡ found a rest → Qubit s a rest
 qubit_read s a rest e = qubit_if s a rest (strip (32 ∷ []) s) refl e
@@ -125,13 +125,13 @@ among_if :
     (e : Name) (es : List Name) (s : List ℕ) (op : Op) (rest : List ℕ) (o : Option (List ℕ)) → strip (e.spelled ++ 32 ∷ []) s ≡ o
     → (named es s ≡ found op rest → Among es s op rest)
     → or_else e.form o (named es s) ≡ found op rest → Among (e ∷ es) s op rest
-among_if e es s op rest (some u) q go h =
+among_if e es s op rest (Some u) q go h =
     inl (record {
       behind = 32 ∷ u;
       text = stripped (e.spelled ++ 32 ∷ []) s u q ∙ append_assoc e.spelled (32 ∷ []) u;
       reads = sym (spaced_qubits e.form (32 ∷ u)) ∙ h;
     })
-among_if e es s op rest none q go h = inr (go h)
+among_if e es s op rest None q go h = inr (go h)
 
 among : (es : List Name) (s : List ℕ) (op : Op) (rest : List ℕ) → named es s ≡ found op rest → Among es s op rest
 among [] s op rest h = absurd (let k : ◌≡◌ {A = ℕ} 0 1 = cc in omega arith)
@@ -184,15 +184,15 @@ lines_read n (suc room) line s ops a =
 
 -- line 1
 abbrev heading : Option (List ℕ) → Found ℕ
-heading o = elim o [ some rest ↦ then_read (number rest) (closed_by (10 ∷ [])) | none ↦ malformed ]
+heading o = elim o [ Some rest ↦ then_read (number rest) (closed_by (10 ∷ [])) | None ↦ malformed ]
 
 header_if : (s : List ℕ) (n : ℕ) (rest : List ℕ) (o : Option (List ℕ)) → strip (81 ∷ 32 ∷ []) s ≡ o → heading o ≡ found n rest → s ≡ header_text n ++ rest
-header_if s n rest (some u) q e =
+header_if s n rest (Some u) q e =
     let w = before (number u) (closed_by (10 ∷ [])) n rest e in
     let z = closed_read w.value w.behind n rest w.later in
     let y = number_read u n (10 ∷ rest) (w.first ∙ (λ i. found (sym z.same i) (z.text i))) in
     stripped (81 ∷ 32 ∷ []) s u q ∙ ap (λ (l : List ℕ). 81 ∷ 32 ∷ l) (y.text ∙ sym (append_assoc (short_decimal n) (10 ∷ []) rest))
-header_if s n rest none q e = absurd (let k : ◌≡◌ {A = ℕ} 0 1 = cc in omega arith)
+header_if s n rest None q e = absurd (let k : ◌≡◌ {A = ℕ} 0 1 = cc in omega arith)
 
 pub header_read : (s : List ℕ) (n : ℕ) (rest : List ℕ) → header s ≡ found n rest → s ≡ header_text n ++ rest
 header_read s n rest e = header_if s n rest (strip (81 ∷ 32 ∷ []) s) refl e

@@ -2,7 +2,7 @@
 use mathlib.Core.Path.{◌≡◌, refl, sym, ◌∙◌, ap}
 use mathlib.Core.Bool.{Bool, true, false}
 use mathlib.Core.List.{List, [], ◌∷◌, ◌++◌, append-nil, append_assoc}
-use mathlib.Core.Option.{Option, none, some}
+use Rattle.std.specs.Prelude.{Option, None, Some}
 use Prim.Native.Nat.{ℕ, suc}
 use native.Mathlib.Omega.{arith}
 use Rattle.answers.specs.Verdict.{Verdict, accepted, refused, then}
@@ -18,7 +18,7 @@ use Rattle.clifford.specs.Run.{State, coin, settle, step, run}
 -- an outcome of this kind and value is what the measurement rule gives for a, a random one with whatever coin
 abbrev pub ToldAs : ℕ → ℕ → Rows → Bool → Bool → Type 0
 ToldAs n a t false value = FixedAt n a t value
-ToldAs n a t true value = random_row n a t ≡ none → ⊥
+ToldAs n a t true value = random_row n a t ≡ None → ⊥
 
 pub record Measured (n a : ℕ) (s e : State) : Type 0 where
   pub outcome : Outcome
@@ -32,9 +32,9 @@ step_measured n line f a s e q = go (random_row n a s.rows) refl s.coins q
     added t o u k = ap (λ (v : State). v.outcomes) (sym (same_accepted t e k)) ∙ u
 
     go : (p : Option ℕ) → random_row n a s.rows ≡ p → (coins : List ℕ) → settle n line f a s p coins ≡ accepted e → Measured n a s e
-    go none u coins k = record { outcome = record { random = false; value = fixed_value n a s.rows }; added = added _ _ refl k; told = record { fixed = u; is = refl } }
-    go (some p) u [] k = absurd (let z : ◌≡◌ {A = ℕ} 0 1 = cc in omega arith)
-    go (some p) u (byte ∷ coins) k = record { outcome = record { random = true; value = coin byte }; added = added _ _ refl k; told = λ w. let z : ◌≡◌ {A = ℕ} 0 1 = cc in omega arith }
+    go None u coins k = record { outcome = record { random = false; value = fixed_value n a s.rows }; added = added _ _ refl k; told = record { fixed = u; is = refl } }
+    go (Some p) u [] k = absurd (let z : ◌≡◌ {A = ℕ} 0 1 = cc in omega arith)
+    go (Some p) u (byte ∷ coins) k = record { outcome = record { random = true; value = coin byte }; added = added _ _ refl k; told = λ w. let z : ◌≡◌ {A = ℕ} 0 1 = cc in omega arith }
 
 -- more outcomes behind those before
 pub record Added (before after : List Outcome) : Type 0 where

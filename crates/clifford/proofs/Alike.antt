@@ -3,7 +3,7 @@
 use mathlib.Core.Path.{◌≡◌, refl, sym, ◌∙◌, ap, ap₂}
 use mathlib.Core.Bool.{Bool, true, false, ◌&&◌, cond}
 use mathlib.Core.List.{List, [], ◌∷◌, ◌++◌}
-use mathlib.Core.Option.{Option, none, some}
+use Rattle.std.specs.Prelude.{Option, None, Some}
 use Prim.Native.Nat.{ℕ, zero, suc}
 use native.Mathlib.Omega.{arith}
 use lib.Dec.{eqb}
@@ -193,9 +193,9 @@ alike_concluded f q m r v u = record { outcomes = joined m.outcomes (more v done
 
 alike_settle : (n line : ℕ) (f : After) (q : ℕ) {a b c d : State} → StateAlike a b c d → (o : Option ℕ) {e g h k : List ℕ} → AllAlike CoinAlike e g h k
     → Alike (settle n line f q a o e) (settle n line f q b o g) (settle n line f q c o h) (settle n line f q d o k)
-alike_settle n line f q m none u = all_accepted (alike_concluded f q m m.rows (record { second = refl; third = refl; fourth = refl; values = alike_fixed n q m.rows }) u)
-alike_settle n line f q m (some p) done = all_refused
-alike_settle n line f q m (some p) (more r u) = all_accepted (alike_concluded f q m (alike_collapsed n q p r m.rows) (record { second = refl; third = refl; fourth = refl; values = r.is }) u)
+alike_settle n line f q m None u = all_accepted (alike_concluded f q m m.rows (record { second = refl; third = refl; fourth = refl; values = alike_fixed n q m.rows }) u)
+alike_settle n line f q m (Some p) done = all_refused
+alike_settle n line f q m (Some p) (more r u) = all_accepted (alike_concluded f q m (alike_collapsed n q p r m.rows) (record { second = refl; third = refl; fourth = refl; values = r.is }) u)
 
 pub alike_step : (n line : ℕ) (op : Op) {a b c d : State} → StateAlike a b c d → Alike (step n line op a) (step n line op b) (step n line op c) (step n line op d)
 alike_step n line (apply g) m =

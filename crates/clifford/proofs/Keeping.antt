@@ -3,7 +3,7 @@
 use mathlib.Core.Path.{◌≡◌}
 use mathlib.Core.Bool.{Bool, true, false}
 use mathlib.Core.List.{List, [], ◌∷◌}
-use mathlib.Core.Option.{Option, none, some}
+use Rattle.std.specs.Prelude.{Option, None, Some}
 use Prim.Native.Nat.{ℕ, suc, ◌<◌}
 use Rattle.answers.specs.Verdict.{Verdict, accepted, refused, then}
 use Rattle.answers.proofs.First.{Answer, lowest_is}
@@ -40,9 +40,9 @@ module _ (n : ℕ) (P : Rows → Type 0) (k : Keeps n P) where
   step_keeps line (measure f a) s v q = go (random_row n a s.rows) s.coins (lowest_is (λ i. has_x a (s.rows.stabilizer i)) n)
     where
       go : (o : Option ℕ) (coins : List ℕ) → Answer (λ i. has_x a (s.rows.stabilizer i)) n o → Kept P (settle n line f a s o coins)
-      go none coins l = by_afterwards f a (fixed_value n a s.rows) s.rows v q
-      go (some p) [] l = tt
-      go (some p) (byte ∷ coins) l = by_afterwards f a (coin byte) (collapsed n a p (coin byte) s.rows) v (k.by_random a p (coin byte) s.rows v l.below l.passes q)
+      go None coins l = by_afterwards f a (fixed_value n a s.rows) s.rows v q
+      go (Some p) [] l = tt
+      go (Some p) (byte ∷ coins) l = by_afterwards f a (coin byte) (collapsed n a p (coin byte) s.rows) v (k.by_random a p (coin byte) s.rows v l.below l.passes q)
 
   pub run_keeps : (line : ℕ) (ops : List Op) (s : State) → AllValid n ops → P s.rows → Kept P (run n line ops s)
   run_keeps line [] s v q = q

@@ -2,7 +2,7 @@
 use mathlib.Core.Path.{◌≡◌, refl, sym, ◌∙◌, ap}
 use mathlib.Core.Bool.{true, false}
 use mathlib.Core.List.{List, [], ◌∷◌, ◌++◌}
-use mathlib.Core.Option.{Option, none, some}
+use Rattle.std.specs.Prelude.{Option, None, Some}
 use Prim.Native.Nat.{ℕ, suc, ◌+◌}
 use lib.ListN.{length}
 use Rattle.answers.specs.Verdict.{Verdict, accepted, refused, then}
@@ -35,15 +35,15 @@ module _ (n a : ℕ) (s : State) (before : List Outcome) (o : Outcome) where
   module _ (line : ℕ) (e : State) (l : e.outcomes ≡ before ++ (o ∷ [])) where
     one_flips : o.value ≡ true → (k : Option ℕ) (coins : List ℕ) → then (settle n line Keep a s k coins) (run n (suc line) []) ≡ accepted e
         → then (settle n line Reset a s k coins) (run n (suc line) []) ≡ then (settle n line Keep a s k coins) (run n (suc line) (apply (one PauliX a) ∷ []))
-    one_flips v none coins q = rw (ap (λ (p : Outcome). p.value) (outcome_is e (fixed_answer n a s.rows) coins q l) ∙ v)
-    one_flips v (some p) [] q = refl
-    one_flips v (some p) (byte ∷ coins) q = rw (ap (λ (p : Outcome). p.value) (outcome_is e (random_answer n a p (coin byte) s.rows) coins q l) ∙ v)
+    one_flips v None coins q = rw (ap (λ (p : Outcome). p.value) (outcome_is e (fixed_answer n a s.rows) coins q l) ∙ v)
+    one_flips v (Some p) [] q = refl
+    one_flips v (Some p) (byte ∷ coins) q = rw (ap (λ (p : Outcome). p.value) (outcome_is e (random_answer n a p (coin byte) s.rows) coins q l) ∙ v)
 
     zero_keeps : o.value ≡ false → (k : Option ℕ) (coins : List ℕ) → then (settle n line Keep a s k coins) (run n (suc line) []) ≡ accepted e
         → then (settle n line Reset a s k coins) (run n (suc line) []) ≡ then (settle n line Keep a s k coins) (run n (suc line) [])
-    zero_keeps v none coins q = rw (ap (λ (p : Outcome). p.value) (outcome_is e (fixed_answer n a s.rows) coins q l) ∙ v)
-    zero_keeps v (some p) [] q = refl
-    zero_keeps v (some p) (byte ∷ coins) q = rw (ap (λ (p : Outcome). p.value) (outcome_is e (random_answer n a p (coin byte) s.rows) coins q l) ∙ v)
+    zero_keeps v None coins q = rw (ap (λ (p : Outcome). p.value) (outcome_is e (fixed_answer n a s.rows) coins q l) ∙ v)
+    zero_keeps v (Some p) [] q = refl
+    zero_keeps v (Some p) (byte ∷ coins) q = rw (ap (λ (p : Outcome). p.value) (outcome_is e (random_answer n a p (coin byte) s.rows) coins q l) ∙ v)
 
 -- a run that ends in M a, whose last outcome is o
 module _ (n line a : ℕ) (ops : List Op) (s e : State) (before : List Outcome) (o : Outcome) (q : run n line (ops ++ (measure Keep a ∷ [])) s ≡ accepted e) (l : e.outcomes ≡ before ++ (o ∷ [])) where

@@ -2,7 +2,7 @@
 -- of rows that are no stabilizers. Assumes nothing.
 use mathlib.Core.Path.{◌≡◌, refl}
 use mathlib.Core.Bool.{Bool, true, false, cond}
-use mathlib.Core.Option.{some}
+use Rattle.std.specs.Prelude.{Some}
 use Prim.Native.Nat.{ℕ, zero, suc, ◌+◌, ◌<◌}
 use native.Mathlib.Omega.{arith}
 use lib.Dec.{eqb, ltb}
@@ -79,7 +79,7 @@ fixed_no_row = (record { fixed = refl; is = refl }, on_two (λ i. (after_cx.stab
 abbrev after_h : Rows
 after_h = gated (one H 0) (start 1)
 
-pub product-not_fixed : ProductOf 1 (numbered 1 after_h) 2 (settled 0 false) × (random_row 1 0 after_h ≡ some 0)
+pub product-not_fixed : ProductOf 1 (numbered 1 after_h) 2 (settled 0 false) × (random_row 1 0 after_h ≡ Some 0)
 product-not_fixed = (record { choice = λ i. eqb i 0; letters = at; power = refl }, refl)
   where
     at : (b : ℕ) → b < 1 → (chosen_product 1 (numbered 1 after_h) (λ i. eqb i 0) 2).letters b ≡ alone Z 0 b

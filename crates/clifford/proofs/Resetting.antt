@@ -2,7 +2,7 @@
 use mathlib.Core.Path.{◌≡◌, refl, sym, ap, ap₂}
 use mathlib.Core.Bool.{Bool, true, false, cond}
 use mathlib.Core.List.{List, [], ◌∷◌, ◌++◌}
-use mathlib.Core.Option.{Option, none, some}
+use Rattle.std.specs.Prelude.{Option, None, Some}
 use Prim.Native.Nat.{ℕ, ◌<◌}
 use lib.Dec.{eqb}
 use Rattle.answers.specs.First.{lowest}
@@ -61,10 +61,10 @@ module _ (n a : ℕ) where
 
   module _ (line line' : ℕ) (f : After) (s u : State) (m : SameLetters s.rows u.rows) where
     settled_agree : (o : Option ℕ) (k l : List ℕ) → RowsAgree (settle n line f a s o k) (settle n line' f a u o l)
-    settled_agree none k l = afterwards_letters f (fixed_value n a s.rows) (fixed_value n a u.rows) s.rows u.rows m
-    settled_agree (some p) [] l = tt
-    settled_agree (some p) (b ∷ k) [] = tt
-    settled_agree (some p) (b ∷ k) (c ∷ l) = afterwards_letters f (coin b) (coin c) _ _ (collapsed_letters p (coin b) (coin c) s.rows u.rows m)
+    settled_agree None k l = afterwards_letters f (fixed_value n a s.rows) (fixed_value n a u.rows) s.rows u.rows m
+    settled_agree (Some p) [] l = tt
+    settled_agree (Some p) (b ∷ k) [] = tt
+    settled_agree (Some p) (b ∷ k) (c ∷ l) = afterwards_letters f (coin b) (coin c) _ _ (collapsed_letters p (coin b) (coin c) s.rows u.rows m)
 
     -- the outcome decides row signs only, never a letter: with either coin, and from rows of other signs too, M and MR leave the same letters
     pub signs_only : (e v : State) → step n line (measure f a) s ≡ accepted e → step n line' (measure f a) u ≡ accepted v → SameLetters e.rows v.rows
@@ -90,9 +90,9 @@ module _ (n line a : ℕ) (s : State) (h : a < n) (k : Paired n s.rows) where
   Zero (refused number place) = Unit {0}
 
   settled_zero : (o : Option ℕ) → random_row n a s.rows ≡ o → first.Answer (λ i. has_x a (s.rows.stabilizer i)) n o → (coins : List ℕ) → Zero (settle n line Reset a s o coins)
-  settled_zero none e l coins = zeroed (fixed_value n a s.rows) s.rows k (record { fixed = e; is = refl })
-  settled_zero (some p) e l [] = tt
-  settled_zero (some p) e l (byte ∷ coins) =
+  settled_zero None e l coins = zeroed (fixed_value n a s.rows) s.rows k (record { fixed = e; is = refl })
+  settled_zero (Some p) e l [] = tt
+  settled_zero (Some p) e l (byte ∷ coins) =
       zeroed (coin byte) (collapsed n a p (coin byte) s.rows) (collapsed_paired n a p (coin byte) s.rows h l.below l.passes k) (random_again n a p (coin byte) s.rows l.passes l.below)
 
   pub reset_fixed : (e : State) → step n line (measure Reset a) s ≡ accepted e → FixedAt n a e.rows false

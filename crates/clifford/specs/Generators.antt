@@ -1,7 +1,7 @@
 -- What the rows of a tableau are beyond being properly paired, and what fixed means: document 02, request m. Said of 2n rows in their order, of which the last n are
 -- the stabilizers, as a record lists them; "product" is that of a choice of rows. Assumes nothing.
 use Rattle.std.specs.Prelude.{Bool, true, false, ◌⊎◌, ◌↔◌, ◌≡◌, ℕ, ◌+◌, ◌<◌}
-use Rattle.std.proofs.Math.Option.{none}
+use Rattle.std.specs.Prelude.{None}
 use Rattle.pauli.specs.Letters.{I}
 use Rattle.pauli.specs.Rows.{Row}
 use Rattle.choices.specs.Choices.{Choice, chosen_product, OnlyI, ProductOf}
@@ -25,7 +25,7 @@ ZFixed n rows a = (i : ℕ) → i < n → has_x a ((tableau_of n rows).stabilize
 
 -- the measurement rule finds a fixed, at this value
 pub record FixedAt (n a : ℕ) (t : Rows) (value : Bool) : Type 0 where
-  pub fixed : random_row n a t ≡ none
+  pub fixed : random_row n a t ≡ None
   pub is : fixed_value n a t ≡ value
 
 -- `settled a false` is plus Z on a alone, `settled a true` is minus Z

@@ -1,6 +1,6 @@
 -- The measurement of a qubit: document 01, "M a", random or fixed. Assumes nothing.
 use Rattle.std.specs.Prelude.{Bool, true, false, cond, ℕ, eqb}
-use Rattle.std.proofs.Math.Option.{Option}
+use Rattle.std.specs.Prelude.{Option}
 use Rattle.answers.specs.First.{lowest}
 use Rattle.pauli.specs.Letters.{Z, x}
 use Rattle.pauli.specs.Rows.{Row, times_row, Phased, minus_sign}

@@ -1,6 +1,6 @@
 -- A run of operations on a tableau with lent coins: the operations' rules, one after the other. Assumes nothing.
 use Rattle.std.specs.Prelude.{Bool, cond, List, [], ◌∷◌, ◌++◌, ℕ, suc, ◌%◌, ◌<◌, eqb}
-use Rattle.std.proofs.Math.Option.{Option, none, some}
+use Rattle.std.specs.Prelude.{Option, None, Some}
 use Rattle.answers.specs.Verdict.{Verdict, accepted, refused, then}
 use Rattle.clifford.specs.declared.One.TheVariants.{PauliX}
 use Rattle.clifford.specs.declared.Gate.TheVariants.{One as one}
@@ -37,9 +37,9 @@ concluded f a s m coins = record { outcomes = s.outcomes ++ (m.outcome ∷ []); 
 
 -- coins are taken in order, one for each random measurement, none for a fixed one
 abbrev pub settle : ℕ → ℕ → After → ℕ → State → Option ℕ → List ℕ → Verdict State
-settle n line f a s none coins = accepted (concluded f a s (fixed_answer n a s.rows) coins)
-settle n line f a s (some p) [] = refused 7 line
-settle n line f a s (some p) (byte ∷ coins) = accepted (concluded f a s (random_answer n a p (coin byte) s.rows) coins)
+settle n line f a s None coins = accepted (concluded f a s (fixed_answer n a s.rows) coins)
+settle n line f a s (Some p) [] = refused 7 line
+settle n line f a s (Some p) (byte ∷ coins) = accepted (concluded f a s (random_answer n a p (coin byte) s.rows) coins)
 
 -- one operation, which stands on this line
 abbrev pub step : ℕ → ℕ → Op → State → Verdict State

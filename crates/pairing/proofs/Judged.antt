@@ -2,7 +2,7 @@
 use mathlib.Core.Path.{◌≡◌, refl, sym, ◌∙◌, ap, ap₂}
 use mathlib.Core.Bool.{Bool, true, false}
 use mathlib.Core.List.{List}
-use mathlib.Core.Option.{Option, none, some}
+use Rattle.std.specs.Prelude.{Option, None, Some}
 use Prim.Native.Nat.{ℕ, suc, ◌+◌, ◌-◌, ◌*◌, ◌%◌, ◌≤◌, ◌<◌}
 use native.Mathlib.Decide.{dec_lt}
 use native.Mathlib.Omega.{arith}
@@ -103,8 +103,8 @@ module _ (n : ℕ) (w : List ℕ) (most : n ≤ most_qubits) (held : Holds n w) 
     }
       where
         go : p < n + n → (o : Option ℕ) → Answer (wrong_pair n (rows_of n w) p) (n + n) o → is_some o ≡ true
-        go l (some j) k = refl
-        go l none k = absurd (r.here l (pairs_right p l r.before k))
+        go l (Some j) k = refl
+        go l None k = absurd (r.here l (pairs_right p l r.before k))
 
 -- the rows that a record spells are the packed rows, by their numbers
 module _ (s : List ℕ) (at n : ℕ) (w : List ℕ) (most : n ≤ most_qubits) (loaded : Loaded s at n w) where

@@ -2,7 +2,7 @@
 use mathlib.Core.Path.{◌≡◌, refl, sym, ◌∙◌, ap, ap₂, subst}
 use mathlib.Core.Bool.{Bool, true, false}
 use mathlib.Core.List.{List, [], ◌∷◌, map}
-use mathlib.Core.Option.{none}
+use Rattle.std.specs.Prelude.{None}
 use Prim.Native.Nat.{ℕ, ◌≤◌}
 use native.Mathlib.Omega.{arith}
 use borrow.Author.Tests.{eqb-true}
@@ -32,7 +32,7 @@ record Asked (text stated : List ℕ) (w : Weighed) : Type 0 where
   circuit : Circuit
   meant : meaning text ≡ accepted circuit
   long : length stated ≡ count_measured circuit.ops
-  good : first_other stated ≡ none
+  good : first_other stated ≡ None
   is : weigh_circuit circuit (map value_of stated) ≡ w
 
 limited : (u w : Weighed) → told_limit u ≡ accepted w → u ≡ w
@@ -95,7 +95,7 @@ module _ (text stated : List ℕ) (c : Circuit) (meant : meaning text ≡ accept
       let p = parts text c meant in
       record_within c.qubits (count_measured c.ops) p.few_qubits (omega (arith, measured_few c.ops, p.few_operations))
 
-  gives_leaves : first_other stated ≡ none → Gives c coins (map value_of stated) → LeavesReadout text coins longest_record stated
+  gives_leaves : first_other stated ≡ None → Gives c coins (map value_of stated) → LeavesReadout text coins longest_record stated
   gives_leaves good g =
       let s = sheet c.qubits coins g.state in
       let a : AcceptedRun text coins s = record { circuit = c; meant = meant; state = g.state; ran = g.ran; is = refl } in
@@ -112,7 +112,7 @@ ruled_out text stated line e coins room l =
     impossible_none a.circuit (map value_of stated) (record { line = line; is = a.is }) coins (leaves_gives text stated a.circuit a.meant coins room l)
 
 -- one that is in no run's record is told to be impossible, whatever k would be
-pub none_leaves : (text stated : List ℕ) (c : Circuit) → meaning text ≡ accepted c → length stated ≡ count_measured c.ops → first_other stated ≡ none
+pub none_leaves : (text stated : List ℕ) (c : Circuit) → meaning text ≡ accepted c → length stated ≡ count_measured c.ops → first_other stated ≡ None
     → ((coins : List ℕ) → LeavesReadout text coins longest_record stated → ⊥) → RuledOut text stated
 unfolding probability_of
 none_leaves text stated c meant long good f =

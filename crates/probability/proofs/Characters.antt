@@ -1,7 +1,7 @@
 -- What the characters of a readout say: where they are good, and where one is not, or their number is another, that nothing else counts. Assumes nothing.
 use mathlib.Core.Bool.{Bool, true, false, not, ◌||◌, true≢false}
 use mathlib.Core.List.{List, [], ◌∷◌, map}
-use mathlib.Core.Option.{Option, none, some}
+use Rattle.std.specs.Prelude.{Option, None, Some}
 use mathlib.Core.Path.{◌≡◌, refl, sym, ◌∙◌, ap, ap₂, subst}
 use Prim.Native.Nat.{ℕ, suc, ◌≤◌, ◌<◌}
 use native.Mathlib.Omega.{arith}
@@ -17,10 +17,10 @@ use Rattle.probability.specs.ByRuns.{value_byte}
 use Rattle.probability.specs.Parts.Stating.{Other}
 
 -- the first other character is found, or there is none
-pub other_none : (s : List ℕ) (r : ℕ) → Other s r → length s ≤ r → first_other s ≡ none
+pub other_none : (s : List ℕ) (r : ℕ) → Other s r → length s ≤ r → first_other s ≡ None
 other_none s r o h = lowest_none (λ i. not (is_value (get_or s i 0))) (length s) (λ i l. ap not (o.before i (omega (arith, o.within))))
 
-pub other_some : (s : List ℕ) (r : ℕ) → Other s r → r < length s → first_other s ≡ some r
+pub other_some : (s : List ℕ) (r : ℕ) → Other s r → r < length s → first_other s ≡ Some r
 other_some s r o h =
     lowest_some (λ i. not (is_value (get_or s i 0))) (length s) r (record { below = h; passes = ap not (o.here h); first = λ i l. ap not (o.before i l) })
 
@@ -28,20 +28,20 @@ other_some s r o h =
 pub wrong_number : (s : List ℕ) (m : ℕ) → (length s ≡ m → ⊥) → (v : Verdict Weighed) → well_stated s m v ≡ refused 15 0
 wrong_number s m h v = ap (λ (b : Bool). unless b 15 0 (unless_at 10 (first_other s) v)) (ne_eqb (length s) m h)
 
-pub wrong_character : (s : List ℕ) (m at : ℕ) → length s ≡ m → first_other s ≡ some at → (v : Verdict Weighed) → well_stated s m v ≡ refused 10 at
+pub wrong_character : (s : List ℕ) (m at : ℕ) → length s ≡ m → first_other s ≡ Some at → (v : Verdict Weighed) → well_stated s m v ≡ refused 10 at
 wrong_character s m at h e v =
     ap₂ (λ (b : Bool) (o : Option ℕ). unless b 15 0 (unless_at 10 o v)) (eq-eqb (length s) m h) e
 
-pub all_good : (s : List ℕ) (m : ℕ) → length s ≡ m → first_other s ≡ none → (v : Verdict Weighed) → well_stated s m v ≡ v
+pub all_good : (s : List ℕ) (m : ℕ) → length s ≡ m → first_other s ≡ None → (v : Verdict Weighed) → well_stated s m v ≡ v
 all_good s m h e v = ap₂ (λ (b : Bool) (o : Option ℕ). unless b 15 0 (unless_at 10 o v)) (eq-eqb (length s) m h) e
 
 -- what comes later counts only where all characters are good
-pub later_counts : (s : List ℕ) (m : ℕ) (v w : Verdict Weighed) → (first_other s ≡ none → v ≡ w) → well_stated s m v ≡ well_stated s m w
+pub later_counts : (s : List ℕ) (m : ℕ) (v w : Verdict Weighed) → (first_other s ≡ None → v ≡ w) → well_stated s m v ≡ well_stated s m w
 later_counts s m v w f = go (first_other s) f
   where
-    go : (o : Option ℕ) → (o ≡ none → v ≡ w) → unless (eqb (length s) m) 15 0 (unless_at 10 o v) ≡ unless (eqb (length s) m) 15 0 (unless_at 10 o w)
-    go none g = ap (unless (eqb (length s) m) 15 0) (g refl)
-    go (some at) g = refl
+    go : (o : Option ℕ) → (o ≡ None → v ≡ w) → unless (eqb (length s) m) 15 0 (unless_at 10 o v) ≡ unless (eqb (length s) m) 15 0 (unless_at 10 o w)
+    go None g = ap (unless (eqb (length s) m) 15 0) (g refl)
+    go (Some at) g = refl
 
 -- the value of a good character is its lowest bit
 value_coin : (b : ℕ) → is_value b ≡ true → value_of b ≡ coin b
@@ -69,14 +69,14 @@ bytes_back : (s : List ℕ) → ((i : ℕ) → i < length s → is_value (get_or
 bytes_back [] h = refl
 bytes_back (b ∷ s) h = ap₂ ◌∷◌ (byte_back b (h 0 (omega arith))) (bytes_back s (λ i l. h (suc i) (omega arith)))
 
-no_others : (s : List ℕ) → first_other s ≡ none → (i : ℕ) → i < length s → is_value (get_or s i 0) ≡ true
+no_others : (s : List ℕ) → first_other s ≡ None → (i : ℕ) → i < length s → is_value (get_or s i 0) ≡ true
 no_others s e i l = not-false (is_value (get_or s i 0)) (others i l)
   where
     others : (i : ℕ) → i < length s → not (is_value (get_or s i 0)) ≡ false
     others = subst (Answer (λ i. not (is_value (get_or s i 0))) (length s)) e (lowest_is (λ i. not (is_value (get_or s i 0))) (length s))
 
-pub values_back : (s : List ℕ) → first_other s ≡ none → map value_byte (map value_of s) ≡ s
+pub values_back : (s : List ℕ) → first_other s ≡ None → map value_byte (map value_of s) ≡ s
 values_back s e = bytes_back s (no_others s e)
 
-pub coins_are_values : (s : List ℕ) → first_other s ≡ none → map coin s ≡ map value_of s
+pub coins_are_values : (s : List ℕ) → first_other s ≡ None → map coin s ≡ map value_of s
 coins_are_values s e = sym (values_coins s (no_others s e))

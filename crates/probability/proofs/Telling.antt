@@ -1,7 +1,7 @@
 -- What the answer tells: the limit on k, the characters, and a pass over the lines behind the walk. Assumes nothing.
 use mathlib.Core.Bool.{Bool}
 use mathlib.Core.List.{List}
-use mathlib.Core.Option.{none}
+use Rattle.std.specs.Prelude.{None}
 use mathlib.Core.Path.{◌≡◌, refl, sym, ◌∙◌, ap}
 use Prim.Native.Nat.{ℕ, zero, suc, ◌+◌, ◌-◌, ◌≤◌, ◌<◌}
 use native.Mathlib.Omega.{arith}
@@ -50,7 +50,7 @@ nowhere_is random zero h = refl
 nowhere_is random (suc line) h = absurd (h (omega arith))
 
 -- good characters leave the verdict as it is
-pub stated_well : (s : List ℕ) (m : ℕ) (v : Verdict Weighed) (r : Chance) → (length s ≡ m) × (first_other s ≡ none) → Tells v r → Tells (well_stated s m v) r
+pub stated_well : (s : List ℕ) (m : ℕ) (v : Verdict Weighed) (r : Chance) → (length s ≡ m) × (first_other s ≡ None) → Tells v r → Tells (well_stated s m v) r
 stated_well s m v r g t = retold r v (well_stated s m v) (sym (all_good s m g.0 g.1 v)) t
 
 -- the lines from a position on, behind so many operations and measurements

@@ -1,6 +1,6 @@
 -- The probability of a stated readout: document 02, request h, order of refusals 1 to 6, then 15, then 10, then 14. Assumes nothing.
 use Rattle.std.specs.Prelude.{Bool, ◌||◌, not, List, map, ◌≡◌, ℕ, eqb, leb, length, get_or}
-use Rattle.std.proofs.Math.Option.{Option}
+use Rattle.std.specs.Prelude.{Option}
 use Rattle.limits.specs.Limits.{most_halvings}
 use Rattle.answers.specs.First.{lowest}
 use Rattle.answers.specs.Verdict.{Verdict, accepted, refused, then, unless, unless_at}

@@ -2,7 +2,7 @@
 use mathlib.Core.Path.{◌≡◌, ap}
 use mathlib.Core.Bool.{Bool, true, false, not, ◌&&◌}
 use mathlib.Core.List.{List}
-use mathlib.Core.Option.{Option, none, some}
+use Rattle.std.specs.Prelude.{Option, None, Some}
 use Prim.Native.Nat.{ℕ, ◌+◌, ◌-◌, ◌≤◌}
 use native.Mathlib.Omega.{arith}
 use lib.Dec.{eqb, leb}
@@ -34,8 +34,8 @@ product-has_room first second room h = room_enough (product_of first second) roo
     last false bytes l e = absurd (not_accepted 12 0 bytes e)
 
     more : (o : Option ℕ) (bytes : List ℕ) → length first ≤ longest_row → unless_at 10 o (multiplied (length first - 1) first second) ≡ accepted bytes → length bytes ≤ room
-    more none bytes l e = last (not (anticommute (length first - 1) (spelled first).letters (spelled second).letters)) bytes l e
-    more (some place) bytes l e = absurd (not_accepted 10 place bytes e)
+    more None bytes l e = last (not (anticommute (length first - 1) (spelled first).letters (spelled second).letters)) bytes l e
+    more (Some place) bytes l e = absurd (not_accepted 10 place bytes e)
 
     fits : (a b c : Bool) → (c ≡ true → length first ≤ longest_row) → (bytes : List ℕ) → unless (a && b && c) 13 0 (unless_at 10 (first_bad_of_two first second) (multiplied (length first - 1) first second)) ≡ accepted bytes → length bytes ≤ room
     fits true true true k bytes e = more (first_bad_of_two first second) bytes (k (λ i. true)) e

@@ -1,6 +1,6 @@
 -- The product of two row texts: document 01, "Row product", with the refusals 13, 10, 12 in that order, then 8. Assumes nothing.
 use Rattle.std.specs.Prelude.{Bool, not, ◌&&◌, cond, List, ℕ, ◌+◌, ◌-◌, eqb, leb, ltb, length, get_or}
-use Rattle.std.proofs.Math.Option.{Option}
+use Rattle.std.specs.Prelude.{Option}
 use Rattle.answers.specs.First.{lowest}
 use Rattle.answers.specs.Verdict.{Verdict, accepted, unless, unless_at}
 use Rattle.limits.specs.Limits.{most_qubits}

@@ -1,7 +1,7 @@
 -- No operation line is longer than eleven bytes. Assumes nothing.
 use mathlib.Core.Bool.{Bool, true, false, cond}
 use mathlib.Core.List.{List, [], ◌∷◌, ◌++◌}
-use mathlib.Core.Option.{Option, none, some}
+use Rattle.std.specs.Prelude.{Option, None, Some}
 use mathlib.Core.Path.{◌≡◌, refl, ◌∙◌, ap}
 use Prim.Native.Nat.{ℕ, zero, suc, ◌+◌, ◌-◌, ◌*◌, ◌≤◌}
 use native.Mathlib.Omega.{arith}
@@ -45,7 +45,7 @@ number_within (c ∷ s) = go (eqb c 48) (is_digit c)
     go false false = tt
 
 -- what stands before the rest
-front_length : (bs s rest : List ℕ) → strip bs s ≡ some rest → length s ≡ length bs + length rest
+front_length : (bs s rest : List ℕ) → strip bs s ≡ Some rest → length s ≡ length bs + length rest
 front_length bs s rest e = ap length (stripped bs s rest e) ∙ length-append bs rest
 
 behind : {A : Type 0} (k : ℕ) (bs s rest : List ℕ) (r : Found A) → length s ≡ length bs + length rest → Within k rest r → Within (length bs + k) s r
@@ -55,9 +55,9 @@ behind k bs s rest malformed e w = tt
 qubit_within : (s : List ℕ) → Within 4 s (qubit s)
 qubit_within s = go (strip (space ∷ []) s) refl
   where
-    go : (o : Option (List ℕ)) → strip (space ∷ []) s ≡ o → Within {A = ℕ} 4 s (elim o [ some rest ↦ number rest | none ↦ malformed ])
-    go (some rest) e = behind 3 (space ∷ []) s rest (number rest) (front_length (space ∷ []) s rest e) (number_within rest)
-    go none e = tt
+    go : (o : Option (List ℕ)) → strip (space ∷ []) s ≡ o → Within {A = ℕ} 4 s (elim o [ Some rest ↦ number rest | None ↦ malformed ])
+    go (Some rest) e = behind 3 (space ∷ []) s rest (number rest) (front_length (space ∷ []) s rest e) (number_within rest)
+    go None e = tt
 
 and_then : {A B : Type 0} (k m : ℕ) (s : List ℕ) (r : Found A) (f : A → List ℕ → Found B) → Within k s r → ((a : A) (t : List ℕ) → Within m t (f a t)) → Within (k + m) s (then_read r f)
 and_then {B = B} k m s (found a rest) f w h = go (f a rest) (h a rest)
@@ -83,17 +83,17 @@ named_within [] s h = tt
 named_within (e ∷ es) s h = go (strip (e.spelled ++ space ∷ []) s) refl (named_within es s h.1)
   where
     go : (o : Option (List ℕ)) → strip (e.spelled ++ space ∷ []) s ≡ o → Within 10 s (named es s) → Within 10 s (or_else e.form o (named es s))
-    go (some rest) q w =
+    go (Some rest) q w =
         more (length (e.spelled ++ space ∷ []) + 7) 10 s (operands e.form rest) (omega (arith, h.0, length-append e.spelled (space ∷ [])))
         (behind 7 (e.spelled ++ space ∷ []) s rest (operands e.form rest) (front_length (e.spelled ++ space ∷ []) s rest q) (operands_within e.form rest))
-    go none q w = w
+    go None q w = w
 
 closed_within : {A : Type 0} (a : A) (s : List ℕ) → Within 1 s (closed_by (end_byte ∷ []) a s)
 closed_within {A} a s = go (strip (end_byte ∷ []) s) refl
   where
-    go : (o : Option (List ℕ)) → strip (end_byte ∷ []) s ≡ o → Within {A = A} 1 s (elim o [ some rest ↦ found a rest | none ↦ malformed ])
-    go (some rest) e = omega (arith, front_length (end_byte ∷ []) s rest e)
-    go none e = tt
+    go : (o : Option (List ℕ)) → strip (end_byte ∷ []) s ≡ o → Within {A = A} 1 s (elim o [ Some rest ↦ found a rest | None ↦ malformed ])
+    go (Some rest) e = omega (arith, front_length (end_byte ∷ []) s rest e)
+    go None e = tt
 
 line_within : (s : List ℕ) → Within 11 s (op_line s)
 line_within s = and_then 10 1 s (named names s) (closed_by (end_byte ∷ [])) (named_within names s small) closed_within

@@ -2,7 +2,7 @@
 use mathlib.Core.Path.{◌≡◌, sym, ap, ap₂, ◌∙◌}
 use mathlib.Core.Bool.{true, false, true≢false}
 use mathlib.Core.List.{List}
-use mathlib.Core.Option.{none, some}
+use Rattle.std.specs.Prelude.{None, Some}
 use Prim.Native.Nat.{ℕ, ◌+◌, ◌*◌, ◌/◌, ◌%◌, ◌≤◌, ◌<◌}
 use native.Mathlib.Decide.{dec_lt}
 use native.Mathlib.Omega.{arith}
@@ -56,7 +56,7 @@ module _ (n : ℕ) (w : List ℕ) (a : ℕ) (h : Holds n w) (nl : n ≤ most_qub
           let k : i % 64 < count_trailing_zeros 64 (word g) = omega arith in
           rw e k
 
-  pub found_in : (g p : ℕ) → ((e : ℕ) → e < g → Empty e) → count_trailing_zeros 64 (word g) < 64 → p ≡ 64 * g + count_trailing_zeros 64 (word g) → p < most_qubits → some p ≡ random_row n a (rows_of n w)
+  pub found_in : (g p : ℕ) → ((e : ℕ) → e < g → Empty e) → count_trailing_zeros 64 (word g) < 64 → p ≡ 64 * g + count_trailing_zeros 64 (word g) → p < most_qubits → Some p ≡ random_row n a (rows_of n w)
   found_in g p none_before l e m =
       let set : bit_at w (8 * a) (most_qubits + p) ≡ true = in_word g (count_trailing_zeros 64 (word g)) p l e ∙ trailing_at 64 (word g) l in
       let b : p < n = inside p m set in
@@ -66,7 +66,7 @@ module _ (n : ℕ) (w : List ℕ) (a : ℕ) (h : Holds n w) (nl : n ≤ most_qub
         first = λ k c. passes k (omega arith) ∙ below g none_before k (omega arith) (omega arith);
       }))
 
-  pub found_none : ((e : ℕ) → e < most_qubits / 64 → Empty e) → none ≡ random_row n a (rows_of n w)
+  pub found_none : ((e : ℕ) → e < most_qubits / 64 → Empty e) → None ≡ random_row n a (rows_of n w)
   found_none empty =
       sym (lowest_none (λ i. has_x a (rows_from n most_qubits w i)) n (λ k b. passes k b ∙ in_word (k / 64) (k % 64) k (omega arith) (omega arith)
       ∙ trailing_below 64 (word (k / 64)) (k % 64) (let l : k / 64 < most_qubits / 64 = omega arith in omega (arith, empty (k / 64) l))))

@@ -2,7 +2,7 @@
 use mathlib.Core.Path.{◌≡◌, refl, sym, ◌∙◌, ap}
 use mathlib.Core.Bool.{Bool, true, false, not, ◌&&◌}
 use mathlib.Core.List.{List}
-use mathlib.Core.Option.{none, some}
+use Rattle.std.specs.Prelude.{None, Some}
 use Prim.Native.Nat.{ℕ, zero, suc, ◌+◌, ◌-◌, ◌*◌, ◌%◌, ◌≤◌, ◌<◌}
 use native.Mathlib.Decide.{dec_lt}
 use native.Mathlib.Nat.{add-zero, add_assoc, add-mul, mul-le-mul_right}
@@ -20,10 +20,10 @@ use Rattle.records.specs.Reading.{is_mark, byte_fits}
 use Rattle.read_rows.specs.Parts.Loading.{First, NoneWhere}
 
 -- a first place is what `lowest` finds
-pub first_some : (f : ℕ → Bool) (m p : ℕ) → First f m p → p < m → lowest f m ≡ some p
+pub first_some : (f : ℕ → Bool) (m p : ℕ) → First f m p → p < m → lowest f m ≡ Some p
 first_some f m p a h = lowest_some f m p (record { below = h; passes = a.here h; first = a.before })
 
-pub first_none : (f : ℕ → Bool) (m p : ℕ) → First f m p → m ≤ p → lowest f m ≡ none
+pub first_none : (f : ℕ → Bool) (m p : ℕ) → First f m p → m ≤ p → lowest f m ≡ None
 first_none f m p a h = lowest_none f m (λ i l. a.before i (omega arith))
 
 -- a test that goes on as another one from a base on

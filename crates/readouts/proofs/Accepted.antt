@@ -1,7 +1,7 @@
 -- Which runs are accepted: a coin for each measurement is enough, and of two runs that are lent equally many coins both are or neither is. Assumes nothing.
 use mathlib.Core.Path.{◌≡◌, refl, sym, ◌∙◌, ap}
 use mathlib.Core.List.{List, [], ◌∷◌}
-use mathlib.Core.Option.{Option, none, some}
+use Rattle.std.specs.Prelude.{Option, None, Some}
 use Prim.Native.Nat.{ℕ, suc, ◌≤◌}
 use native.Mathlib.Omega.{arith}
 use lib.ListN.{length}
@@ -23,9 +23,9 @@ enough n line (measure f a ∷ ops) s h = go (enough n (suc line) ops) (random_r
     go : ((t : State) → count_measured ops ≤ length t.coins → (e : State) × (run n (suc line) ops t ≡ accepted e))
         → (o : Option ℕ) (coins : List ℕ) → count_measured (measure f a ∷ ops) ≤ length coins
         → (e : State) × (then (settle n line f a s o coins) (λ next. run n (suc line) ops next) ≡ accepted e)
-    go ih none coins h = ih _ (omega arith)
-    go ih (some p) [] h = absurd (omega arith)
-    go ih (some p) (byte ∷ coins) h = ih _ (omega arith)
+    go ih None coins h = ih _ (omega arith)
+    go ih (Some p) [] h = absurd (omega arith)
+    go ih (Some p) (byte ∷ coins) h = ih _ (omega arith)
 
 -- the run with these coins is accepted, with so many left
 pub record Ends (c : Circuit) (coins : List ℕ) (left : ℕ) : Type 0 where

@@ -2,7 +2,7 @@
 use mathlib.Core.Path.{◌≡◌, refl, sym, ◌∙◌, ap}
 use mathlib.Core.Bool.{Bool, true, false, cond}
 use mathlib.Core.List.{List, [], ◌∷◌, ◌++◌, map, map-append, append-nil, append_assoc}
-use mathlib.Core.Option.{Option, none, some}
+use Rattle.std.specs.Prelude.{Option, None, Some}
 use Prim.Native.Nat.{ℕ, suc, ◌+◌}
 use native.Mathlib.Omega.{arith}
 use lib.ListN.{length}
@@ -26,8 +26,8 @@ coins_of n (apply g ∷ ops) t stated = coins_of n ops (gated g t) stated
 coins_of n (measure f a ∷ ops) t [] = []
 coins_of n (measure f a ∷ ops) t (value ∷ stated) =
     elim (random_row n a t) [
-      | some p ↦ value ∷ coins_of n ops (afterwards f a value (collapsed n a p value t)) stated
-      | none ↦ coins_of n ops (afterwards f a value t) stated
+      | Some p ↦ value ∷ coins_of n ops (afterwards f a value (collapsed n a p value t)) stated
+      | None ↦ coins_of n ops (afterwards f a value t) stated
     ]
 
 -- a run from s that is accepted and ends in e: the values that it adds are weighed as possible, whatever was passed before, and their coins are those taken
@@ -64,7 +64,7 @@ followed n line (measure f a ∷ ops) s e h = go (λ t. followed n (suc line) op
   where
     go : ((t : State) → run n (suc line) ops t ≡ accepted e → Followed n (suc line) ops t e) → (o : Option ℕ) (coins : List ℕ) → random_row n a s.rows ≡ o → s.coins ≡ coins
         → then (settle n line f a s o coins) (λ next. run n (suc line) ops next) ≡ accepted e → Followed n line (measure f a ∷ ops) s e
-    go ih none coins q d h =
+    go ih None coins q d h =
         let v = fixed_value n a s.rows in
         let w = ih (concluded f a s (fixed_answer n a s.rows) coins) h in
         record {
@@ -74,8 +74,8 @@ followed n line (measure f a ∷ ops) s e h = go (λ t. followed n (suc line) op
           weighs = λ k. rw (q, weigh, coins_of, self v) (w.weighs k);
           taken = rw (q, coins_of, d) w.taken;
         }
-    go ih (some p) [] q d h = absurd (let z : ◌≡◌ {A = ℕ} 0 1 = cc in omega arith)
-    go ih (some p) (byte ∷ coins) q d h =
+    go ih (Some p) [] q d h = absurd (let z : ◌≡◌ {A = ℕ} 0 1 = cc in omega arith)
+    go ih (Some p) (byte ∷ coins) q d h =
         let m = random_answer n a p (coin byte) s.rows in
         let w = ih (concluded f a s m coins) h in
         record {
@@ -105,13 +105,13 @@ adds_one : (n line : ℕ) (op : Op) (ops : List Op) (s : State) (o : Outcome) (r
 adds_one n line op ops s o rows left r e w = record { state = w.state; ran = rw e w.ran; values = w.values ∙ behind s.outcomes o r }
 
 module _ (n line : ℕ) (f : After) (a : ℕ) (ops : List Op) (t : Rows) (v : Bool) (r : List Bool) where
-  replayed_fixed : (k m : ℕ) → random_row n a t ≡ none → fixed_value n a t ≡ v → Replayed n (suc line) ops (afterwards f a v t) r k m → Replayed n line (measure f a ∷ ops) t (v ∷ r) k m
+  replayed_fixed : (k m : ℕ) → random_row n a t ≡ None → fixed_value n a t ≡ v → Replayed n (suc line) ops (afterwards f a v t) r k m → Replayed n line (measure f a ∷ ops) t (v ∷ r) k m
   replayed_fixed k m q d w = record {
     passed = rw (q, coins_of) w.passed;
     replays = λ before lent later c. adds_one n line (measure f a) ops _ (record { random = false; value = v }) _ _ r (rw (q, d)) (w.replays _ lent later (rw (q, coins_of) at c));
   }
 
-  replayed_random : (k m p : ℕ) → random_row n a t ≡ some p → Replayed n (suc line) ops (afterwards f a v (collapsed n a p v t)) r (suc k) m → Replayed n line (measure f a ∷ ops) t (v ∷ r) k m
+  replayed_random : (k m p : ℕ) → random_row n a t ≡ Some p → Replayed n (suc line) ops (afterwards f a v (collapsed n a p v t)) r (suc k) m → Replayed n line (measure f a ∷ ops) t (v ∷ r) k m
   replayed_random k m p q w = record { passed = rw (q, coins_of) (omega (arith, w.passed)); replays = λ before lent later c. go before lent later (rw (q, coins_of) at c) }
     where
       go : (before : List Outcome) (lent : List ℕ) (later : List Bool) → map coin lent ≡ v ∷ (coins_of n ops (afterwards f a v (collapsed n a p v t)) r ++ later)
@@ -147,7 +147,7 @@ replayed n line (measure f a ∷ ops) t (v ∷ r) k m l h = go (λ t k. replayed
   where
     go : ((t : Rows) (k : ℕ) → weigh n (suc line) ops t r k ≡ possible m → Replayed n (suc line) ops t r k m)
         → (o : Option ℕ) → random_row n a t ≡ o → Replayed n line (measure f a ∷ ops) t (v ∷ r) k m
-    go ih (some p) q = replayed_random n line f a ops t v r k m p q (ih (afterwards f a v (collapsed n a p v t)) (suc k) (rw (q, weigh) at h))
-    go ih none q =
+    go ih (Some p) q = replayed_random n line f a ops t v r k m p q (ih (afterwards f a v (collapsed n a p v t)) (suc k) (rw (q, weigh) at h))
+    go ih None q =
         let w = agreed line m v (fixed_value n a t) (weigh n (suc line) ops (afterwards f a v t) r k) (rw (q, weigh) at h) in
         replayed_fixed n line f a ops t v r k m q w.0 (ih (afterwards f a v t) k w.1)

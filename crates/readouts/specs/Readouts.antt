@@ -1,6 +1,6 @@
 -- What a stated readout of a circuit comes to: document 02, request h. A readout has one value for each measurement, in order. Assumes nothing.
 use Rattle.std.specs.Prelude.{Bool, cond, List, [], ◌∷◌, ℕ, suc}
-use Rattle.std.proofs.Math.Option.{none, some}
+use Rattle.std.specs.Prelude.{None, Some}
 use Rattle.pauli.specs.Letters.{◌⊕◌}
 use Rattle.clifford.specs.declared.Op.{Op}
 use Rattle.clifford.specs.declared.Op.TheVariants.{Gate as apply, Measure as measure}
@@ -23,8 +23,8 @@ weigh n line (apply g ∷ ops) t stated k = weigh n (suc line) ops (gated g t) s
 weigh n line (measure f a ∷ ops) t [] k = impossible line
 weigh n line (measure f a ∷ ops) t (value ∷ stated) k =
     elim (random_row n a t) [
-      | some p ↦ weigh n (suc line) ops (afterwards f a value (collapsed n a p value t)) stated (suc k)
-      | none ↦ cond (value ⊕ fixed_value n a t) (impossible line) (weigh n (suc line) ops (afterwards f a value t) stated k)
+      | Some p ↦ weigh n (suc line) ops (afterwards f a value (collapsed n a p value t)) stated (suc k)
+      | None ↦ cond (value ⊕ fixed_value n a t) (impossible line) (weigh n (suc line) ops (afterwards f a value t) stated k)
     ]
 
 -- from the start tableau; the first operation stands on line 2

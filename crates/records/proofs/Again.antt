@@ -1,7 +1,7 @@
 -- What is accepted is what a record holds, and is written again as the same bytes. Assumes nothing.
 use mathlib.Core.Path.{◌≡◌, refl, sym, ◌∙◌, ap, ap₂, subst}
 use mathlib.Core.List.{List, ◌++◌}
-use mathlib.Core.Option.{none}
+use Rattle.std.specs.Prelude.{None}
 use Prim.Native.Nat.{ℕ, ◌+◌, ◌-◌, ◌*◌, ◌≤◌}
 use native.Mathlib.Omega.{arith}
 use lib.ListN.{length, take, drop, take-append-drop, length-drop}
@@ -18,7 +18,7 @@ use Rattle.records.proofs.Spelled.{marks_fit, rows_again, tidy}
 use Rattle.records.proofs.Trailer.{trailer_again}
 
 -- bytes that end in a record with no bad byte
-module _ (s : List ℕ) (e : Ending s) (bad : first_bad (qubits_in s) (outcome_count s) (last_record s) ≡ none) where
+module _ (s : List ℕ) (e : Ending s) (bad : first_bad (qubits_in s) (outcome_count s) (last_record s) ≡ None) where
   abbrev n : ℕ
   n = qubits_in s
 
@@ -40,7 +40,7 @@ module _ (s : List ℕ) (e : Ending s) (bad : first_bad (qubits_in s) (outcome_c
   count_is : length (take count last) ≡ count
   count_is = length-take-le count last (omega (arith, length-is))
 
-  holds : first_wrong n (rows_in n count last) ≡ none → Held n (take count last) (rows_in n count last)
+  holds : first_wrong n (rows_in n count last) ≡ None → Held n (take count last) (rows_in n count last)
   unfolding rows_in
   holds pairs = record {
     least = e.least;

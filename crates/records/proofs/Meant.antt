@@ -4,7 +4,7 @@ use mathlib.Core.Path.{◌≡◌, refl, sym, subst}
 use mathlib.Core.Bool.{Bool, true}
 use mathlib.Core.List.{List}
 use mathlib.Core.Logic.{◌↔◌}
-use mathlib.Core.Option.{Option, none, some}
+use Rattle.std.specs.Prelude.{Option, None, Some}
 use Prim.Native.Nat.{ℕ, ◌+◌, ◌<◌}
 use borrow.Author.Tests.{lt-ltb}
 use Rattle.answers.specs.Verdict.{accepted, refused}
@@ -33,10 +33,10 @@ module _ (s : List ℕ) where
   unfolding rows_in
   same_stabilizer i h = rw (lt-ltb i n h)
 
-  right_generators : first_wrong n rows ≡ none → Generators n (record_row s)
+  right_generators : first_wrong n rows ≡ None → Generators n (record_row s)
   right_generators e = in_order_generators n rows (record_row s) same_destabilizer same_stabilizer (none_paired n rows e)
 
-  right_fixed_at : first_wrong n rows ≡ none → (a : ℕ) → a < n → (m : Bool) → FixedAt n a rows m ↔ OfStabilizers n (record_row s) (settled a m)
+  right_fixed_at : first_wrong n rows ≡ None → (a : ℕ) → a < n → (m : Bool) → FixedAt n a rows m ↔ OfStabilizers n (record_row s) (settled a m)
   right_fixed_at e a h m = (λ f. product-of_cong n rows.stabilizer (tableau_of n (record_row s)).stabilizer n same_stabilizer (settled a m) (both.0 f), λ g. both.1 (product-of_cong n (tableau_of n (record_row s)).stabilizer rows.stabilizer n (λ i l. sym (same_stabilizer i l)) (settled a m) g))
     where
       both : FixedAt n a rows m ↔ ProductOf n rows.stabilizer n (settled a m)
@@ -47,13 +47,13 @@ module _ (s : List ℕ) where
     pub place : ℕ
     pub is : read_of s ≡ refused 11 place
 
-  pub misread_refused : ends_in_record s ≡ true → first_bad n (outcome_count s) (last_record s) ≡ none → (Generators n (record_row s) → ⊥) → Refused_11
+  pub misread_refused : ends_in_record s ≡ true → first_bad n (outcome_count s) (last_record s) ≡ None → (Generators n (record_row s) → ⊥) → Refused_11
   unfolding read_of
   misread_refused ends fits fails = go (first_wrong n rows) refl
     where
       go : (o : Option ℕ) → first_wrong n rows ≡ o → Refused_11
-      go none e = absurd (fails (right_generators e))
-      go (some k) e = record { place = k; is = rw (ends, fits, e) }
+      go None e = absurd (fails (right_generators e))
+      go (Some k) e = record { place = k; is = rw (ends, fits, e) }
 
 module _ (s : List ℕ) (r : Read) (e : read_of s ≡ accepted r) where
   pub accepted_paired : Paired r.qubits r.rows

@@ -1,7 +1,7 @@
 -- No wrong pair is found exactly where the rows are properly paired. Assumes nothing.
 use mathlib.Core.Path.{◌≡◌, refl, sym, ◌∙◌, ap, ap₂}
 use mathlib.Core.Bool.{Bool, true, false, ◌&&◌, true≢false}
-use mathlib.Core.Option.{Option, none, some}
+use Rattle.std.specs.Prelude.{Option, None, Some}
 use Prim.Native.Nat.{ℕ, ◌+◌, ◌-◌, ◌<◌}
 use native.Mathlib.Decide.{dec_lt}
 use native.Mathlib.Omega.{arith}
@@ -26,9 +26,9 @@ same_xor true true e = refl
 same_xor true false e = absurd (true≢false e)
 same_xor false b e = sym e
 
-none_found : (o : Option ℕ) → is_some o ≡ false → o ≡ none
-none_found none e = refl
-none_found (some k) e = absurd (true≢false e)
+none_found : (o : Option ℕ) → is_some o ≡ false → o ≡ None
+none_found None e = refl
+none_found (Some k) e = absurd (true≢false e)
 
 module _ (n : ℕ) (t : Rows) where
   abbrev crossed : ℕ → ℕ → Bool
@@ -37,11 +37,11 @@ module _ (n : ℕ) (t : Rows) where
   abbrev Right : Type 0
   Right = (i j : ℕ) → i < n + n → j < n + n → wrong_pair n t i j ≡ false
 
-  right_none : Right → first_wrong n t ≡ none
+  right_none : Right → first_wrong n t ≡ None
   unfolding first_wrong
   right_none r = lowest_none _ (n + n) (λ i l. ap is_some (lowest_none (wrong_pair n t i) (n + n) (λ j k. r i j l k)))
 
-  none_right : first_wrong n t ≡ none → Right
+  none_right : first_wrong n t ≡ None → Right
   unfolding first_wrong
   none_right e i j l k =
       none_passes (wrong_pair n t i) (n + n) (none_found (lowest (wrong_pair n t i) (n + n)) (none_passes (λ i. is_some (lowest (wrong_pair n t i) (n + n))) (n + n) e i l)) j k
@@ -102,8 +102,8 @@ module _ (n : ℕ) (t : Rows) where
               let e : i ≡ j = omega arith in
               ap (λ m. anticommute n (f m) (f j)) e ∙ anticommute-self n (f j)
 
-  pub paired_none : Paired n t → first_wrong n t ≡ none
+  pub paired_none : Paired n t → first_wrong n t ≡ None
   paired_none p = right_none (paired_right p)
 
-  pub none_paired : first_wrong n t ≡ none → Paired n t
+  pub none_paired : first_wrong n t ≡ None → Paired n t
   none_paired e = right_paired (none_right e)

@@ -2,7 +2,7 @@
 use mathlib.Core.Path.{◌≡◌, refl, sym, ◌∙◌, ap}
 use mathlib.Core.Bool.{Bool, true, false, not, cond}
 use mathlib.Core.List.{List}
-use mathlib.Core.Option.{none}
+use Rattle.std.specs.Prelude.{None}
 use Prim.Native.Nat.{ℕ, ◌+◌, ◌-◌, ◌*◌, ◌%◌, ◌≤◌, ◌<◌}
 use native.Mathlib.Decide.{dec_lt}
 use native.Mathlib.Omega.{arith}
@@ -23,7 +23,7 @@ use Rattle.records.proofs.Outcomes.{Marks}
 use Rattle.records.proofs.Held.{Tidy}
 use Rattle.records.proofs.Places.{rows_numbered, all_rows, row_within, place_of_row, byte_of_part}
 
-module _ (n count : ℕ) (r : List ℕ) (long : count + 2 * (n * (n + 1)) ≤ length r) (bad : first_bad n count r ≡ none) where
+module _ (n count : ℕ) (r : List ℕ) (long : count + 2 * (n * (n + 1)) ≤ length r) (bad : first_bad n count r ≡ None) where
   abbrev part : ℕ → List ℕ
   part i = take (n + 1) (drop (count + i * (n + 1)) r)
 

@@ -1,7 +1,7 @@
 -- What holds of bytes whose last record is accepted. Assumes nothing.
 use mathlib.Core.Path.{◌≡◌}
 use mathlib.Core.List.{List}
-use mathlib.Core.Option.{none}
+use Rattle.std.specs.Prelude.{None}
 use Prim.Native.Nat.{ℕ, ◌+◌}
 use lib.ListN.{take}
 use Rattle.answers.specs.Verdict.{accepted, unless_at}
@@ -16,8 +16,8 @@ taken_as n count r = record { qubits = n; size = to_rows n + count; marks = take
 
 pub record Taken (s : List ℕ) (r : Read) : Type 0 where
   pub ending : Ending s
-  pub fits : first_bad (qubits_in s) (outcome_count s) (last_record s) ≡ none
-  pub pairs : first_wrong (qubits_in s) (rows_in (qubits_in s) (outcome_count s) (last_record s)) ≡ none
+  pub fits : first_bad (qubits_in s) (outcome_count s) (last_record s) ≡ None
+  pub pairs : first_wrong (qubits_in s) (rows_in (qubits_in s) (outcome_count s) (last_record s)) ≡ None
   pub is : taken_as (qubits_in s) (outcome_count s) (last_record s) ≡ r
 
 pub taken : (s : List ℕ) (r : Read) → read_of s ≡ accepted r → Taken s r

@@ -2,7 +2,7 @@
 use mathlib.Core.Path.{◌≡◌, refl, sym, ◌∙◌, ap}
 use mathlib.Core.Bool.{Bool, true, false, not, cond}
 use mathlib.Core.List.{List, ◌++◌, append_assoc}
-use mathlib.Core.Option.{none}
+use Rattle.std.specs.Prelude.{None}
 use Prim.Native.Nat.{ℕ, ◌+◌, ◌-◌, ◌*◌, ◌/◌, ◌%◌, ◌^◌, ◌≤◌, ◌<◌}
 use native.Mathlib.Nat.{mod-lt}
 use native.Mathlib.Omega.{arith}
@@ -110,7 +110,7 @@ module _ (n : ℕ) (marks : List ℕ) (t : Rows) (held : Held n marks t) where
           let p = (k - count) % (n + 1) in
           ap (fits_at p) (row_byte n marks t k h l) ∙ text_fits n (numbered n t ((k - count) / (n + 1))) p (mod-lt (k - count) (omega arith))
 
-  none_bad : first_bad n count text ≡ none
+  none_bad : first_bad n count text ≡ None
   unfolding first_bad
   none_bad = lowest_none _ (count + 2 * (n * (n + 1))) (λ k l. ap not (fits k l))
 

@@ -2,7 +2,7 @@
 use mathlib.Core.Path.{◌≡◌, refl}
 use mathlib.Core.Bool.{true}
 use mathlib.Core.List.{List, [], ◌∷◌}
-use mathlib.Core.Option.{Option, none, some}
+use Rattle.std.specs.Prelude.{Option, None, Some}
 use Prim.Native.Nat.{ℕ, suc, ◌≤◌}
 use native.Mathlib.Omega.{arith}
 use lib.Dec.{leb}
@@ -34,9 +34,9 @@ ran_seven n line [] s = tt
 ran_seven n line (op ∷ ops) s = by_then Seven (step n line op s) (run n (suc line) ops) (one op) (ran_seven n (suc line) ops)
   where
     settled : (f : After) (a : ℕ) (o : Option ℕ) (coins : List ℕ) → RefusedBy Seven (settle n line f a s o coins)
-    settled f a none coins = tt
-    settled f a (some p) [] = refl
-    settled f a (some p) (byte ∷ coins) = tt
+    settled f a None coins = tt
+    settled f a (Some p) [] = refl
+    settled f a (Some p) (byte ∷ coins) = tt
 
     one : (o : Op) → RefusedBy Seven (step n line o s)
     one (apply g) = tt

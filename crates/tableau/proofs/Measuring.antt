@@ -2,7 +2,7 @@
 use mathlib.Core.Path.{◌≡◌, refl, ap, ◌∙◌}
 use mathlib.Core.Bool.{Bool, true, false}
 use mathlib.Core.List.{List}
-use mathlib.Core.Option.{none, some}
+use Rattle.std.specs.Prelude.{None, Some}
 use Prim.Native.Nat.{ℕ, ◌≤◌}
 use Rattle.limits.specs.Limits.{most_qubits}
 use Rattle.clifford.specs.declared.Gate.{Gate}
@@ -24,14 +24,14 @@ unfolding rows
 applied g t w s f e = becomes t.n w _ s.least s.most (e.holds t.n s.most f s.holds) (e.rows t.n s.most f)
 
 module _ (t : Tableau) (a : ℕ) (coin : Bool) where
-  pub random_answer : (p : ℕ) (w : List ℕ) → some p ≡ random_row t.n a (rows t)
+  pub random_answer : (p : ℕ) (w : List ℕ) → Some p ≡ random_row t.n a (rows t)
       → rows_of t.n w ≡ collapsed t.n a p coin (rows t)
       → answer (record { tableau = record { n = t.n; words = w }; random = true; value = coin }) ≡ measured t.n a coin (rows t)
   unfolding rows
   random_answer p w e r =
       ap (λ (u : Rows). record { after = u; outcome = record { random = true; value = coin } }) r ∙ ap (answer_at t.n a coin (rows t)) e
 
-  pub fixed_answer : (v : Bool) → none ≡ random_row t.n a (rows t) → v ≡ fixed_value t.n a (rows t)
+  pub fixed_answer : (v : Bool) → None ≡ random_row t.n a (rows t) → v ≡ fixed_value t.n a (rows t)
       → answer (record { tableau = t; random = false; value = v }) ≡ measured t.n a coin (rows t)
   fixed_answer v e r =
       ap (λ (u : Bool). record { after = rows t; outcome = record { random = false; value = u } }) r ∙ ap (answer_at t.n a coin (rows t)) e

@@ -1,6 +1,6 @@
 -- What each operation makes of a tableau: document 01, "The operations". Assumes nothing.
 use Rattle.std.specs.Prelude.{Bool, ◌≡◌, ℕ}
-use Rattle.std.proofs.Math.Option.{Option, none, some}
+use Rattle.std.specs.Prelude.{Option, None, Some}
 use Rattle.clifford.specs.Tableau.{Rows}
 use Rattle.clifford.specs.Measurement.{random_row, Answer, random_answer, fixed_answer}
 use Rattle.tableau.specs.declared.Tableau.{Tableau}
@@ -15,8 +15,8 @@ pub record Becomes (n : ℕ) (t : Rows) (r : Tableau) : Type 0 where
 
 -- random where row p is found, and fixed otherwise
 abbrev pub answer_at : ℕ → ℕ → Bool → Rows → Option ℕ → Answer
-answer_at n a coin t (some p) = random_answer n a p coin t
-answer_at n a coin t none = fixed_answer n a t
+answer_at n a coin t (Some p) = random_answer n a p coin t
+answer_at n a coin t None = fixed_answer n a t
 
 -- the measurement of qubit a of n
 abbrev pub measured : ℕ → ℕ → Bool → Rows → Answer

@@ -3,7 +3,7 @@
 use mathlib.Core.Path.{◌≡◌, refl, sym, ◌∙◌, ap}
 use mathlib.Core.Bool.{Bool, true, false}
 use mathlib.Core.List.{List, [], ◌∷◌, ◌++◌}
-use mathlib.Core.Option.{Option, none, some}
+use Rattle.std.specs.Prelude.{Option, None, Some}
 use Prim.Native.Nat.{ℕ, suc, ◌+◌, ◌-◌, ◌≤◌}
 use native.Mathlib.Omega.{arith}
 use lib.ListN.{length, drop, length-append}
@@ -82,9 +82,9 @@ step_pays n line (apply g) s = nothing s _
 step_pays n line (measure f a) s = go (random_row n a s.rows) s.coins refl
   where
     go : (o : Option ℕ) (coins : List ℕ) → s.coins ≡ coins → Pays s (settle n line f a s o coins)
-    go none coins e = paid_one s (fixed_answer n a s.rows).outcome _ coins (sym e) (omega (arith, ap length e))
-    go (some p) [] e = tt
-    go (some p) (byte ∷ coins) e = paid_one s (random_answer n a p (coin byte) s.rows).outcome _ coins (ap (drop 1) (sym e)) (omega (arith, ap length e))
+    go None coins e = paid_one s (fixed_answer n a s.rows).outcome _ coins (sym e) (omega (arith, ap length e))
+    go (Some p) [] e = tt
+    go (Some p) (byte ∷ coins) e = paid_one s (random_answer n a p (coin byte) s.rows).outcome _ coins (ap (drop 1) (sym e)) (omega (arith, ap length e))
 
 pub run_pays : (n line : ℕ) (ops : List Op) (s : State) → Pays s (run n line ops s)
 run_pays n line [] s = nothing s s.rows

@@ -1,7 +1,7 @@
 -- How many operations measure, and that a run has one outcome for each measurement. Assumes nothing.
 use mathlib.Core.Path.{◌≡◌, ap}
 use mathlib.Core.List.{List, [], ◌∷◌, ◌++◌}
-use mathlib.Core.Option.{Option, none, some}
+use Rattle.std.specs.Prelude.{Option, None, Some}
 use Prim.Native.Nat.{ℕ, suc, ◌+◌, ◌≤◌}
 use native.Mathlib.Omega.{arith}
 use lib.ListN.{length, length-append}
@@ -36,9 +36,9 @@ step_count n line (measure g a) e f q = go (random_row n a e.rows) e.coins q
         omega (arith, length-append e.outcomes (m.outcome ∷ []), ap (λ (k : State). length k.outcomes) u)
 
     go : (o : Option ℕ) (coins : List ℕ) → settle n line g a e o coins ≡ accepted f → length f.outcomes ≡ length e.outcomes + 1
-    go none coins q = one_more (fixed_answer n a e.rows) coins q
-    go (some p) [] q = absurd (let z : ◌≡◌ {A = ℕ} 0 1 = cc in omega arith)
-    go (some p) (byte ∷ coins) q = one_more (random_answer n a p (coin byte) e.rows) coins q
+    go None coins q = one_more (fixed_answer n a e.rows) coins q
+    go (Some p) [] q = absurd (let z : ◌≡◌ {A = ℕ} 0 1 = cc in omega arith)
+    go (Some p) (byte ∷ coins) q = one_more (random_answer n a p (coin byte) e.rows) coins q
 
 pub run_count : (n line : ℕ) (ops : List Op) (e f : State) → run n line ops e ≡ accepted f → length f.outcomes ≡ length e.outcomes + count_measured ops
 run_count n line [] e f q = let u : e ≡ f = cc in omega (arith, ap (λ (k : State). length k.outcomes) u)

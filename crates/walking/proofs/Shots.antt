@@ -2,7 +2,7 @@
 use mathlib.Core.Path.{◌≡◌, refl, sym, ◌∙◌, ap}
 use mathlib.Core.Bool.{Bool, true, false, ◌&&◌}
 use mathlib.Core.List.{List}
-use mathlib.Core.Option.{none, some}
+use Rattle.std.specs.Prelude.{None, Some}
 use Prim.Native.Nat.{ℕ, suc, ◌≤◌, ◌<◌}
 use lib.ListN.{length, get_or, drop, drop_of_length-le}
 use lib.Seq.{drop-cons}
@@ -18,13 +18,13 @@ resets_by true outcome a t = refl
 resets_by false outcome a t = refl
 
 module _ (n a : ℕ) (t : Rows) (coins : List ℕ) (used : ℕ) where
-  pub was_fixed : (reset value : Bool) (t' : Rows) → none ≡ random_row n a t → value ≡ fixed_value n a t → t' ≡ flipped a (reset && value) t → Fixed n (following reset) a t value t'
+  pub was_fixed : (reset value : Bool) (t' : Rows) → None ≡ random_row n a t → value ≡ fixed_value n a t → t' ≡ flipped a (reset && value) t → Fixed n (following reset) a t value t'
   was_fixed reset value t' e v w = record { kind = sym e; is = v; after = w ∙ resets_by reset value a t }
 
-  pub was_dry : (p : ℕ) → some p ≡ random_row n a t → length coins ≤ used → Dry n a t (drop used coins)
+  pub was_dry : (p : ℕ) → Some p ≡ random_row n a t → length coins ≤ used → Dry n a t (drop used coins)
   was_dry p e h = record { row = p; kind = sym e; none_left = drop_of_length-le coins h }
 
-  pub was_random : (reset : Bool) (p : ℕ) (value : Bool) (u t' : Rows) → some p ≡ random_row n a t → used < length coins → value ≡ coin (get_or coins used 0) → u ≡ collapsed n a p value t
+  pub was_random : (reset : Bool) (p : ℕ) (value : Bool) (u t' : Rows) → Some p ≡ random_row n a t → used < length coins → value ≡ coin (get_or coins used 0) → u ≡ collapsed n a p value t
       → t' ≡ flipped a (reset && value) u → Random n (following reset) a t (drop used coins) value t'
   was_random reset p value u t' e h v c w = record {
     row = p;

@@ -2,7 +2,7 @@
 use mathlib.Core.Path.{◌≡◌, refl, sym, ◌∙◌, ap, ap₂}
 use mathlib.Core.Bool.{Bool, true, false, not, cond, beq}
 use mathlib.Core.List.{List, [], ◌∷◌, map}
-use mathlib.Core.Option.{Option, none, some}
+use Rattle.std.specs.Prelude.{Option, None, Some}
 use Prim.Native.Nat.{ℕ, zero, suc, ◌+◌, ◌≤◌, ◌<◌}
 use native.Mathlib.Nat.{add-zero}
 use native.Mathlib.Numerals.{add-one}
@@ -67,8 +67,8 @@ module _ (n : ℕ) (f : After) (a : ℕ) (t : Rows) (stated : List ℕ) (at : �
     abbrev by_row : ℕ → List Op → ℕ → Option ℕ → Weighed
     by_row line ops k o =
         elim o [
-          | some p ↦ weigh n (suc line) ops (afterwards f a value (collapsed n a p value t)) later (suc k)
-          | none ↦ cond (value ⊕ fixed_value n a t) (impossible line) (weigh n (suc line) ops (afterwards f a value t) later k)
+          | Some p ↦ weigh n (suc line) ops (afterwards f a value (collapsed n a p value t)) later (suc k)
+          | None ↦ cond (value ⊕ fixed_value n a t) (impossible line) (weigh n (suc line) ops (afterwards f a value t) later k)
         ]
 
     takes_one : drop at (map coin stated) ≡ value ∷ later
@@ -79,7 +79,7 @@ module _ (n : ℕ) (f : After) (a : ℕ) (t : Rows) (stated : List ℕ) (at : �
 
     compared : (outcome : Bool) (t' : Rows) → Fixed n f a t outcome t' → (line : ℕ) (ops : List Op) (k : ℕ)
         → weigh n line (measure f a ∷ ops) t (drop at (map coin stated)) k ≡ cond (not (beq value outcome)) (impossible line) (weigh n (suc line) ops (afterwards f a value t) later k)
-    compared outcome t' s line ops k = rw (sym (differs value outcome), s.is) (heard_by line ops k none s.kind)
+    compared outcome t' s line ops k = rw (sym (differs value outcome), s.is) (heard_by line ops k None s.kind)
 
     pub heard_against : (outcome : Bool) (t' : Rows) → Fixed n f a t outcome t' → not (beq value outcome) ≡ true → Against
     heard_against outcome t' s e line ops k = rw e at (compared outcome t' s line ops k)
@@ -100,7 +100,7 @@ module _ (n : ℕ) (f : After) (a : ℕ) (t : Rows) (stated : List ℕ) (at : �
         record {
           holds = hd;
           same = λ line ops k.
-              heard_by line ops k (some s.row) s.kind
+              heard_by line ops k (Some s.row) s.kind
               ∙ ap₂ (λ (u : Rows) (i : ℕ). weigh n (suc line) ops u later i) (ap (λ (b : Bool). afterwards f a b (collapsed n a s.row b t)) v ∙ sym s.after) (sym (add-one k));
         }
 

@@ -1,6 +1,6 @@
 -- What the functions that read at a position of a text promise. Each says which definition of Lines.antt it decides there. Assumes nothing.
 use Rattle.std.specs.Prelude.{Bool, true, false, cond, List, [], ◌∷◌, ◌≡◌, ℕ, ◌+◌, ◌-◌, ◌≤◌, ◌<◌, length, drop}
-use Rattle.std.proofs.Math.Option.{none, some}
+use Rattle.std.specs.Prelude.{None, Some}
 use Rattle.clifford.specs.declared.Two.{Two}
 use Rattle.clifford.specs.declared.Gate.TheVariants.{One as one, Two as two}
 use Rattle.clifford.specs.declared.Op.{Op}
@@ -42,8 +42,8 @@ pair_line g s = then_read (qubits (with_two (λ a b. apply (two g a b))) s) (clo
 
 -- the byte stands there, or it does not
 abbrev pub Has : List ℕ → ℕ → ℕ → Bool → Type 0
-Has s at b true = (at < length s) × (strip (b ∷ []) (drop at s) ≡ some (drop (at + 1) s))
-Has s at b false = strip (b ∷ []) (drop at s) ≡ none
+Has s at b true = (at < length s) × (strip (b ∷ []) (drop at s) ≡ Some (drop (at + 1) s))
+Has s at b false = strip (b ∷ []) (drop at s) ≡ None
 
 -- the digit at the front, or 10
 abbrev pub digit_value : List ℕ → ℕ

@@ -1,6 +1,6 @@
 -- What the parts promise one another of the characters and of the walk. Assumes nothing.
 use Rattle.std.specs.Prelude.{true, false, List, ◌≡◌, ℕ, zero, suc, ◌≤◌, ◌<◌, length, get_or}
-use Rattle.std.proofs.Math.Option.{none}
+use Rattle.std.specs.Prelude.{None}
 use Rattle.answers.specs.Verdict.{Verdict, refused}
 use Rattle.answers.specs.Refusals.{number_of, place_of}
 use Rattle.readouts.specs.Readouts.{Weighed, possible, impossible}
@@ -15,7 +15,7 @@ pub record Other (s : List ℕ) (r : ℕ) : Type 0 where
   pub here : r < length s → is_value (get_or s r 0) ≡ false
 
 abbrev pub StatedAs : List ℕ → ℕ → Stated → Type 0
-StatedAs stated measured stating.Good = (length stated ≡ measured) × (first_other stated ≡ none)
+StatedAs stated measured stating.Good = (length stated ≡ measured) × (first_other stated ≡ None)
 StatedAs stated measured (stating.Refused r) = (v : Verdict Weighed) → well_stated stated measured v ≡ refused (number_of r) (place_of r)
 
 -- what a walk comes to: a line on which it disagrees, or 0 and the number of random measurements

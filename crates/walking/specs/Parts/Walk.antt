@@ -1,6 +1,6 @@
 -- What the parts of a walk over the operation lines promise one another: a measurement, one line, and all lines. Assumes nothing.
 use Rattle.std.specs.Prelude.{Bool, true, cond, List, [], ◌∷◌, map, ◌≡◌, ℕ, ◌≤◌, ◌<◌, length, take, drop}
-use Rattle.std.proofs.Math.Option.{none, some}
+use Rattle.std.specs.Prelude.{None, Some}
 use Rattle.limits.specs.Limits.{most_qubits, most_operations}
 use Rattle.answers.specs.Verdict.{Verdict, accepted, refused}
 use Rattle.clifford.specs.declared.One.TheVariants.{PauliX}
@@ -34,7 +34,7 @@ flipped a applies t = cond applies (gated (one PauliX a) t) t
 
 -- a fixed measurement, and what follows it
 pub record Fixed (n : ℕ) (f : After) (a : ℕ) (t : Rows) (value : Bool) (t' : Rows) : Type 0 where
-  pub kind : random_row n a t ≡ none
+  pub kind : random_row n a t ≡ None
   pub is : value ≡ fixed_value n a t
   pub after : t' ≡ afterwards f a value t
 
@@ -43,7 +43,7 @@ pub record Random (n : ℕ) (f : After) (a : ℕ) (t : Rows) (coins : List ℕ) 
   pub row : ℕ
   pub byte : ℕ
   pub left : List ℕ
-  pub kind : random_row n a t ≡ some row
+  pub kind : random_row n a t ≡ Some row
   pub coins_are : coins ≡ byte ∷ left
   pub is : value ≡ coin byte
   pub after : t' ≡ afterwards f a value (collapsed n a row value t)
@@ -51,7 +51,7 @@ pub record Random (n : ℕ) (f : After) (a : ℕ) (t : Rows) (coins : List ℕ) 
 -- a random one that finds no coin
 pub record Dry (n a : ℕ) (t : Rows) (coins : List ℕ) : Type 0 where
   pub row : ℕ
-  pub kind : random_row n a t ≡ some row
+  pub kind : random_row n a t ≡ Some row
   pub none_left : coins ≡ []
 
 abbrev pub ShotAs : ℕ → After → ℕ → Rows → List ℕ → Shot → Rows → Type 0

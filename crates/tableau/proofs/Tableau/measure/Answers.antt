@@ -1,5 +1,5 @@
 -- `Tableau::measure` meets its contract. Assumes nothing.
-use mathlib.Core.Option.{some}
+use Rattle.std.specs.Prelude.{Some}
 use mathlib.Core.Path.{◌≡◌, refl}
 use Rattle.answers.proofs.First.{lowest_below}
 use Rattle.tableau.specs.View.{rows}
@@ -12,7 +12,7 @@ random_row-found-requires c = let e = c in (e.requires.0.holds, e.requires.0.mos
 pub collapse-requires : goal.collapse-requires
 collapse-requires c =
     let e = c in
-    let p : some c.in-At.p ≡ _ = rw c.in-At.is at c.random_row-found.ensures in
+    let p : Some c.in-At.p ≡ _ = rw c.in-At.is at c.random_row-found.ensures in
     (e.requires.0.holds, e.requires.0.most, e.requires.1, lowest_below _ _ _ p)
 
 pub fixed_value-value-requires : goal.fixed_value-value-requires
