@@ -1,11 +1,15 @@
 -- What the search for the lowest number that passes a test finds. Assumes nothing.
 use mathlib.Core.Path.{◌≡◌, refl, sym, ◌∙◌, ap}
 use mathlib.Core.Bool.{Bool, true, false, cond, true≢false}
-use Rattle.std.specs.Prelude.{Option, None, Some}
-use Prim.Native.Nat.{ℕ, zero, suc, ◌<◌}
+use Rattle.std.specs.Prelude.{Option, None, Some, nat_lt}
+use Rattle.std.specs.List.{position, position_or_len}
+use Rattle.std.proofs.lemmas.List.Sums.{fails_before_first, passes_at_first}
+use Prim.Native.Nat.{ℕ, zero, suc, ◌<◌, ◌≤◌}
 use native.Mathlib.Decide.{dec_lt}
 use native.Mathlib.Omega.{arith}
 use lib.Dec.{eqb}
+use lib.ListN.{length, get_or}
+use mathlib.Core.List.{List}
 use borrow.Author.Tests.{eqb-true, eqb-false}
 use Rattle.answers.specs.First.{lowest}
 
@@ -69,3 +73,13 @@ lowest_below f n p e = go (lowest f n) e (lowest_is f n)
     go : (o : Option ℕ) → Some p ≡ o → Answer f n o → p < n
     go None q l = absurd (let z : ◌≡◌ {A = ℕ} 0 1 = cc in omega arith)
     go (Some k) q l = let u : p ≡ k = cc in omega (arith, l.below)
+
+-- the place of the first element that passes, as the library finds it
+pub position_lowest : (p : ℕ → Bool) (xs : List ℕ) → position p xs ≡ lowest (λ k. p (get_or xs k 0)) (length xs)
+position_lowest p xs = go (nat_lt (position_or_len p xs) (length xs)) refl
+  where
+    go : (b : Bool) → nat_lt (position_or_len p xs) (length xs) ≡ b → cond b (Some (position_or_len p xs)) None ≡ lowest (λ k. p (get_or xs k 0)) (length xs)
+    go true e =
+        let h : position_or_len p xs < length xs = grind (arith) in
+        sym (lowest_some _ _ _ (record { below = h; passes = passes_at_first p xs 0 h; first = λ k l. fails_before_first p xs k 0 l }))
+    go false e = sym (lowest_none _ _ (λ k l. fails_before_first p xs k 0 (let h : length xs ≤ position_or_len p xs = grind (arith) in omega (arith, h))))
