@@ -82,4 +82,6 @@ position_lowest p xs = go (nat_lt (position_or_len p xs) (length xs)) refl
     go true e =
         let h : position_or_len p xs < length xs = grind (arith) in
         sym (lowest_some _ _ _ (record { below = h; passes = passes_at_first p xs 0 h; first = λ k l. fails_before_first p xs k 0 l }))
-    go false e = sym (lowest_none _ _ (λ k l. fails_before_first p xs k 0 (let h : length xs ≤ position_or_len p xs = grind (arith) in omega (arith, h))))
+    go false e =
+        let h : length xs ≤ position_or_len p xs = grind (arith) in
+        sym (lowest_none _ _ (λ (k : ℕ) (l : k < length xs). fails_before_first p xs k 0 (omega (arith, h, l))))
