@@ -1,4 +1,5 @@
-// The layout of a tableau in one array, which specs/View.antt explains: where the signs stand, behind the eight words of each qubit, and how many words there are.
+// The layout of a tableau in one array, which specs/View.antt explains: where the signs stand, behind the eight words of each qubit, and how many words there are. And that of
+// 64 of its rows in bytes, as they are read and written.
 #![tactic(auto)]
 
 pub const SIGNS: usize = 8 * limits::MOST_QUBITS;
@@ -6,3 +7,14 @@ pub const SIGNS: usize = 8 * limits::MOST_QUBITS;
 pub const WORDS: usize = SIGNS + 4;
 
 pub type Words = [u64; WORDS];
+
+// A byte for each qubit and each eight of 64 rows: that of rows 8r to 8r + 7 and of qubit j is byte MOST_QUBITS r + j.
+pub const PLANE: usize = 8 * limits::MOST_QUBITS;
+
+// 64 rows in such bytes, of their x bits and of their z bits, and a bit for each sign: specs/Planes.antt.
+#[derive(Drop)]
+pub struct Planes {
+    pub x: [u8; PLANE],
+    pub z: [u8; PLANE],
+    pub signs: u64,
+}
