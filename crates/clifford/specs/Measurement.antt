@@ -6,6 +6,7 @@ use Rattle.pauli.specs.Letters.{Z, x}
 use Rattle.pauli.specs.Rows.{Row, times_row, Phased, minus_sign}
 use Rattle.choices.specs.Choices.{chosen_product}
 use Rattle.clifford.specs.Tableau.{Rows, alone}
+pub use Rattle.clifford.specs.declared.Outcome.{Outcome}
 
 -- the row has X or Y at a
 abbrev pub has_x : ℕ → Row → Bool
@@ -37,11 +38,6 @@ gathered n a t k = chosen_product n t.stabilizer (λ i. has_x a (t.destabilizer 
 -- otherwise the measurement is fixed: no row changes, and the outcome is 1 when the sign of the product of all of them is minus
 abbrev pub fixed_value : ℕ → ℕ → Rows → Bool
 fixed_value n a t = minus_sign (gathered n a t n).phase
-
--- an outcome: its kind, and its value
-pub record Outcome : Type 0 where
-  pub random : Bool
-  pub value : Bool
 
 -- what a measurement comes to: the rows after it, and its outcome
 pub record Answer : Type 0 where

@@ -1,4 +1,4 @@
-// The nine operations of a circuit: five gates on one qubit, two on two, the measurement, and the measurement with a reset. Their rules are in specs/.
+// The nine operations of a circuit: five gates on one qubit, two on two, the measurement, and the measurement with a reset; and what a measurement gives. Their rules are in specs/.
 #![tactic(auto)]
 
 #[derive(Clone, Copy, Debug, PartialEq, Eq)]
@@ -34,6 +34,13 @@ pub enum After {
 pub enum Op {
     Gate(Gate),
     Measure(After, usize),
+}
+
+// What a measurement gives: whether it is random, and the value measured.
+#[derive(Clone, Copy, Debug, PartialEq, Eq)]
+pub struct Outcome {
+    pub random: bool,
+    pub value: bool,
 }
 
 // The letter of a gate on one qubit.

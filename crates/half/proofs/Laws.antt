@@ -2,6 +2,9 @@
 use mathlib.Core.Path.{◌≡◌, sym, ap, ◌∙◌, subst}
 use Prim.Native.Nat.{ℕ, zero, suc, ◌+◌, ◌-◌, ◌/◌, ◌%◌, ◌≤◌, ◌<◌}
 use native.Mathlib.Omega.{arith}
+use mathlib.Core.HLevel.{is_prop→PathP}
+use Rattle.std.proofs.Props.{props}
+use Prim.{hlevel}
 use mathlib.Core.Bool.{Bool, false, not, cond}
 use lib.IntN.{ℤ, pos, negsuc}
 use lib.Dec.{T}
@@ -11,7 +14,8 @@ use lib.Count.{count_trailing_zeros}
 use lib.Ieee.Bits.{to_bits-of_bits, nan_bits_is}
 use Rattle.limits.specs.Limits.{most_halvings}
 use Rattle.half.specs.declared.Likelihood.{Likelihood}
-use Rattle.half.specs.Half.{half_power, half_bits, Halved, Tied}
+use Rattle.half.specs.Half.{half_power, half_bits, Halved}
+use Rattle.half.specs.Tied.{Tied}
 
 -- the fields of the bits: an exponent field of x + 1, and a fraction of 0
 not_ones : (x : ℕ) → x ≤ 1022 → suc x ≡ 2047 → ⊥
@@ -75,9 +79,13 @@ halved_at k h = record {
   bits = to_bits-of_bits binary64 (half_bits k) (below_all k) (is_number k (of_bits binary64 (half_bits k)) (value_at k h));
 }
 
+-- a number and a double are tied in one way at most
+halved_prop : (k : ℕ) (x : Float) → IsProp (Halved k x)
+halved_prop k x = hlevel props
+
 -- the promise leaves no choice: k and its double are one value
 pub tied_one : (k : ℕ) (l m : Likelihood) → Tied k l → Tied k m → l ≡ m
 tied_one k l m t u =
     let e : l.k ≡ m.k = t.same ∙ sym u.same in
     let v : l.probability ≡ m.probability = t.halved.value ∙ ap half_power e ∙ sym u.halved.value in
-    λ i. record { k = e i; probability = v i }
+    λ i. record { k = e i; probability = v i; halved = is_prop→PathP (λ j. Halved (e j) (v j)) (λ j. halved_prop (e j) (v j)) l.halved m.halved i }

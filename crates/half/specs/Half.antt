@@ -2,7 +2,6 @@
 use Rattle.std.specs.Prelude.{◌≡◌, ℕ, ◌+◌, ◌-◌, ◌*◌, ◌^◌, false, Float}
 use Rattle.std.specs.Float.{fin, binary64}
 use Rattle.std.specs.Float.Ieee.{to_bits, minus}
-use Rattle.half.specs.declared.Likelihood.{Likelihood}
 
 -- `fin false m e` is m times 2 to the power e, so this is 2 to the power 0 - k
 abbrev pub half_power : ℕ → Float
@@ -20,8 +19,3 @@ half_bits k = double_bits 0 (1023 - k) 0
 pub record Halved (k : ℕ) (x : Float) : Type 0 where
   pub value : x ≡ half_power k
   pub bits : to_bits binary64 x ≡ half_bits k
-
--- one answer carries both: the whole number k, and the double that belongs to it
-pub record Tied (k : ℕ) (l : Likelihood) : Type 0 where
-  pub same : l.k ≡ k
-  pub halved : Halved l.k l.probability

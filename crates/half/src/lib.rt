@@ -4,13 +4,14 @@
 
 ghost use Rattle.std.specs.Prelude.{◌≡◌, ◌≤◌};
 ghost use Rattle.limits.specs.Limits.{most_halvings};
-ghost use Rattle.half.specs.Half.{half_bits, Halved, Tied};
+ghost use Rattle.half.specs.Half.{half_bits, Halved};
 
 // How likely an outcome is: the number k of random measurements, and one half to the power k.
-#[derive(Drop)]
+#[derive(Clone, Copy, Debug)]
 pub struct Likelihood {
     pub k: u64,
     pub probability: f64,
+    pub ghost halved: { Halved k probability },
 }
 
 fn half_pattern(k: u64) -> u64
@@ -27,18 +28,21 @@ fn half_power(k: u64) -> f64
     f64::from_bits(half_pattern(k))
 }
 
-pub fn likelihood_of(k: u64) -> Likelihood
-    requires { k ≤ most_halvings }
-    ensures { Tied k result }
-{
-    let probability = half_power(k);
-    Likelihood { k, probability }
-}
+impl Likelihood {
+    ghost use Rattle.half.specs.Tied.{Tied};
 
-// The 64 bits of the double.
-pub fn bits(l: Likelihood) -> u64
-    requires { Halved l.k l.probability }
-    ensures { result ≡ half_bits l.k }
-{
-    f64::to_bits(l.probability)
+    pub fn of(k: u64) -> Self
+        requires { k ≤ most_halvings }
+        ensures { Tied k result }
+    {
+        let probability = half_power(k);
+        Likelihood { k, probability }
+    }
+
+    // The 64 bits of the double.
+    pub fn bits(self) -> u64
+        ensures { result ≡ half_bits self.k }
+    {
+        f64::to_bits(self.probability)
+    }
 }
