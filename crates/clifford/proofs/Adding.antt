@@ -11,7 +11,8 @@ use Rattle.clifford.specs.declared.After.{After}
 use Rattle.clifford.specs.declared.Op.{Op}
 use Rattle.clifford.specs.declared.Op.TheVariants.{Gate as apply, Measure as measure}
 use Rattle.clifford.specs.Tableau.{Rows}
-use Rattle.clifford.specs.Measurement.{Outcome, random_row, fixed_value}
+use Rattle.clifford.specs.declared.Outcome.{Outcome}
+use Rattle.clifford.specs.Measurement.{random_row, fixed_value}
 use Rattle.clifford.specs.Generators.{FixedAt}
 use Rattle.clifford.specs.Run.{State, coin, settle, step, run}
 

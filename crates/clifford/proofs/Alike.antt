@@ -21,7 +21,8 @@ use Rattle.clifford.specs.declared.Op.TheVariants.{Gate as apply, Measure as mea
 use Rattle.clifford.specs.Gates.{turns, new, gate}
 use Rattle.clifford.specs.Tableau.{Rows, start}
 use Rattle.answers.specs.First.{lowest}
-use Rattle.clifford.specs.Measurement.{random_row, cleared, collapsed, gathered, fixed_value, Outcome, Answer}
+use Rattle.clifford.specs.declared.Outcome.{Outcome}
+use Rattle.clifford.specs.Measurement.{random_row, cleared, collapsed, gathered, fixed_value, Answer}
 use Rattle.clifford.specs.Run.{State, coin, begin, afterwards, concluded, settle, step, run}
 use Rattle.clifford.proofs.Afterwards.{turned, afterwards_turns}
 

@@ -11,7 +11,8 @@ use Rattle.clifford.specs.declared.Gate.TheVariants.{One as one}
 use Rattle.clifford.specs.declared.After.TheVariants.{Keep, Reset}
 use Rattle.clifford.specs.declared.Op.{Op}
 use Rattle.clifford.specs.declared.Op.TheVariants.{Gate as apply, Measure as measure}
-use Rattle.clifford.specs.Measurement.{Outcome, Answer, random_row, random_answer, fixed_answer}
+use Rattle.clifford.specs.declared.Outcome.{Outcome}
+use Rattle.clifford.specs.Measurement.{Answer, random_row, random_answer, fixed_answer}
 use Rattle.clifford.specs.Run.{State, coin, concluded, settle, run}
 use Rattle.clifford.proofs.Running.{run_joined}
 

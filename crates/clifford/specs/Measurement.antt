@@ -5,7 +5,7 @@ use Rattle.answers.specs.First.{lowest}
 use Rattle.pauli.specs.Letters.{Z, x}
 use Rattle.pauli.specs.Rows.{Row, times_row, Phased, minus_sign}
 use Rattle.choices.specs.Choices.{chosen_product}
-pub use Rattle.clifford.specs.declared.Outcome.{Outcome}
+use Rattle.clifford.specs.declared.Outcome.{Outcome}
 use Rattle.clifford.specs.Tableau.{Rows, alone}
 pub use Rattle.clifford.specs.declared.Outcome.{Outcome}
 

@@ -10,7 +10,8 @@ use Rattle.clifford.specs.declared.Op.{Op}
 use Rattle.clifford.specs.declared.Op.TheVariants.{Gate as apply, Measure as measure}
 use Rattle.clifford.specs.Gates.{Fits}
 use Rattle.clifford.specs.Tableau.{Rows, start, gated}
-use Rattle.clifford.specs.Measurement.{Outcome, random_row, Answer, random_answer, fixed_answer}
+use Rattle.clifford.specs.declared.Outcome.{Outcome}
+use Rattle.clifford.specs.Measurement.{random_row, Answer, random_answer, fixed_answer}
 
 -- only the lowest bit of a coin byte counts
 abbrev pub coin : ℕ → Bool

@@ -12,7 +12,7 @@ use Rattle.pauli.specs.Letters.{◌⊕◌}
 use Rattle.pauli.specs.Rows.{Row}
 use Rattle.pauli.specs.Texts.{sign_byte, letter_byte, listed, row_text}
 use Rattle.clifford.specs.Tableau.{Rows, numbered}
-use Rattle.clifford.specs.Measurement.{Outcome}
+use Rattle.clifford.specs.declared.Outcome.{Outcome}
 use Rattle.clifford.proofs.Alike.{RowAlike, RowsAlike, OutcomeAlike, AllAlike, done, more, one_length}
 use Rattle.records.specs.Record.{mark, trailer, record_of}
 use Rattle.records.proofs.Bytes.{mark_byte, row_byte, trailer_byte}

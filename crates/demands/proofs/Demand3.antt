@@ -11,7 +11,7 @@ use borrow.Author.Tests.{ltb-true, ltb-false}
 use Rattle.answers.specs.Verdict.{Verdict, accepted, refused, over}
 use Rattle.pauli.specs.Letters.{◌⊕◌}
 use Rattle.pauli.specs.Texts.{sign_byte, is_sign}
-use Rattle.clifford.specs.Measurement.{Outcome}
+use Rattle.clifford.specs.declared.Outcome.{Outcome}
 use Rattle.clifford.specs.Run.{State}
 use Rattle.records.specs.Record.{mark_of, mark, outcome_of, record_of, record_length}
 use Rattle.records.proofs.Lengths.{length-record}

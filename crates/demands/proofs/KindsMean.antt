@@ -13,7 +13,7 @@ use Rattle.clifford.specs.declared.After.{After}
 use Rattle.clifford.specs.declared.Op.{Op}
 use Rattle.clifford.specs.declared.Op.TheVariants.{Measure as measure}
 use Rattle.clifford.specs.Tableau.{Rows}
-use Rattle.clifford.specs.Measurement.{Outcome}
+use Rattle.clifford.specs.declared.Outcome.{Outcome}
 use Rattle.clifford.specs.Generators.{FixedAt}
 use Rattle.clifford.specs.Run.{State, begin, step, run}
 use Rattle.clifford.proofs.Running.{run_joined}

@@ -9,7 +9,7 @@ use lib.Dec.{leb}
 use lib.ListN.{length}
 use Rattle.answers.specs.Verdict.{Verdict, accepted, refused, then, unless}
 use Rattle.pauli.specs.Letters.{◌⊕◌}
-use Rattle.clifford.specs.Measurement.{Outcome}
+use Rattle.clifford.specs.declared.Outcome.{Outcome}
 use Rattle.clifford.specs.Run.{State, coin}
 use Rattle.clifford.proofs.Alike.{OutcomeAlike, AllAlike, done, more, CoinAlike, StateAlike, Alike, all_refused, all_accepted, alike_run, one_length, begin_alike}
 use Rattle.words.proofs.BitLaws.{bit-low, bit-xor}

@@ -8,7 +8,7 @@ use lib.ListN.{length, get_or, take, drop, length-map}
 use lib.Seq.{take_at}
 use Rattle.answers.specs.Verdict.{Verdict, accepted, refused, over}
 use Rattle.answers.proofs.Numbered.{RefusedBy}
-use Rattle.clifford.specs.Measurement.{Outcome}
+use Rattle.clifford.specs.declared.Outcome.{Outcome}
 use Rattle.records.specs.Record.{mark, outcome_of}
 use Rattle.records.specs.Reading.{outcome_part}
 use Rattle.records.proofs.Outcomes.{mark_back}

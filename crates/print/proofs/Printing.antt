@@ -11,7 +11,7 @@ use Rattle.limits.specs.Limits.{most_operations}
 use Rattle.answers.specs.Verdict.{accepted}
 use Rattle.clifford.specs.declared.Op.{Op}
 use Rattle.clifford.specs.declared.Op.TheVariants.{Gate as apply, Measure as measure}
-use Rattle.clifford.specs.Measurement.{Outcome}
+use Rattle.clifford.specs.declared.Outcome.{Outcome}
 use Rattle.circuit.specs.Lines.{op_line, malformed}
 use Rattle.circuit.specs.Parts.Reading.{Stands}
 use Rattle.circuit.specs.Text.{operations, measures, count_measured}

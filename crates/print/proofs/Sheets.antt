@@ -12,7 +12,7 @@ use Rattle.pauli.proofs.Listed.{listed_ext}
 use Rattle.clifford.specs.declared.Op.{Op}
 use Rattle.clifford.specs.declared.Op.TheVariants.{Gate as apply, Measure as measure}
 use Rattle.clifford.specs.Tableau.{Rows}
-use Rattle.clifford.specs.Measurement.{Outcome}
+use Rattle.clifford.specs.declared.Outcome.{Outcome}
 use Rattle.circuit.specs.Text.{count_measured}
 use Rattle.records.specs.Record.{mark, mark_of, joined, rows_text}
 use Rattle.records.proofs.Joined.{listed_split, joined_append, block}

@@ -7,7 +7,7 @@ use Rattle.pauli.specs.Texts.{listed, row_text}
 use Rattle.clifford.specs.declared.Op.{Op}
 use Rattle.clifford.specs.declared.Op.TheVariants.{Gate as apply, Measure as measure}
 use Rattle.clifford.specs.Tableau.{Rows}
-use Rattle.clifford.specs.Measurement.{Outcome}
+use Rattle.clifford.specs.declared.Outcome.{Outcome}
 use Rattle.clifford.specs.Run.{State, run, begin}
 use Rattle.circuit.specs.Lines.{end_byte}
 use Rattle.circuit.specs.Text.{Circuit, meaning}

@@ -1,7 +1,7 @@
 -- The printed lines: words with single spaces between them, closed by byte 10. Document 01, the program `shot`. Assumes nothing.
 use Rattle.std.specs.Prelude.{Bool, true, false, cond, List, [], ◌∷◌, ◌++◌, ℕ, zero, suc, ◌+◌, ◌/◌, ◌%◌, ltb}
 use Rattle.circuit.specs.Lines.{space, end_byte}
-use Rattle.clifford.specs.Measurement.{Outcome}
+use Rattle.clifford.specs.declared.Outcome.{Outcome}
 
 -- a number in decimal without leading zeros, if it has at most so many digits: the last digit behind those of a tenth of it
 unfoldable pub digits_of : ℕ → ℕ → List ℕ

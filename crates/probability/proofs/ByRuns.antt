@@ -11,7 +11,7 @@ use lib.ListN.{length, length-map}
 use Rattle.limits.specs.Limits.{most_halvings}
 use Rattle.answers.specs.Verdict.{Verdict, accepted, then, unless_at}
 use Rattle.answers.proofs.Accepting.{same_accepted, unless_passed, unless_at_passed, then_accepted}
-use Rattle.clifford.specs.Measurement.{Outcome}
+use Rattle.clifford.specs.declared.Outcome.{Outcome}
 use Rattle.circuit.specs.Text.{Circuit, meaning, count_measured}
 use Rattle.checking.proofs.Meant.{parts}
 use Rattle.records.specs.Record.{mark_of, mark, outcome_of, record_length, longest_record}

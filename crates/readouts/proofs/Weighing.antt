@@ -13,7 +13,8 @@ use Rattle.clifford.specs.declared.After.{After}
 use Rattle.clifford.specs.declared.Op.{Op}
 use Rattle.clifford.specs.declared.Op.TheVariants.{Gate as apply, Measure as measure}
 use Rattle.clifford.specs.Tableau.{Rows, gated}
-use Rattle.clifford.specs.Measurement.{Outcome, random_row, collapsed, fixed_value, random_answer, fixed_answer}
+use Rattle.clifford.specs.declared.Outcome.{Outcome}
+use Rattle.clifford.specs.Measurement.{random_row, collapsed, fixed_value, random_answer, fixed_answer}
 use Rattle.clifford.specs.Run.{State, coin, afterwards, concluded, settle, step, run}
 use Rattle.circuit.specs.Text.{count_measured}
 use Rattle.readouts.specs.Readouts.{Weighed, possible, impossible, weigh}

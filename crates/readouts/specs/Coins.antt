@@ -1,7 +1,7 @@
 -- Readouts and coin lists: which coins give a readout, all coin strings of a length, and what it is that readouts are listed each once. Assumes nothing.
 use Rattle.std.specs.Prelude.{Bool, true, false, List, [], ◌∷◌, ◌++◌, map, ◌≡◌, ℕ, zero, suc, ◌^◌, ◌<◌, length, get_or}
 use Rattle.answers.specs.Verdict.{accepted, refused}
-use Rattle.clifford.specs.Measurement.{Outcome}
+use Rattle.clifford.specs.declared.Outcome.{Outcome}
 use Rattle.clifford.specs.Run.{State, coin, begin, run}
 use Rattle.circuit.specs.Text.{Circuit, count_measured}
 use Rattle.tally.specs.Tally.{one_if}

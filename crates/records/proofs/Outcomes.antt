@@ -6,7 +6,7 @@ use Prim.Native.Nat.{ℕ, zero, suc, ◌<◌}
 use native.Mathlib.Nat.{le_of_suc-le-suc}
 use native.Mathlib.Omega.{arith}
 use lib.ListN.{length, get_or}
-use Rattle.clifford.specs.Measurement.{Outcome}
+use Rattle.clifford.specs.declared.Outcome.{Outcome}
 use Rattle.records.specs.Record.{mark_of, mark, outcome_of}
 use Rattle.records.specs.Reading.{is_mark}
 

@@ -3,7 +3,7 @@ use Rattle.std.specs.Prelude.{Bool, true, false, ◌||◌, List, [], ◌∷◌, 
 use Rattle.pauli.specs.Texts.{listed, row_text}
 use Rattle.limits.specs.Limits.{most_qubits, most_operations}
 use Rattle.clifford.specs.Tableau.{Rows}
-use Rattle.clifford.specs.Measurement.{Outcome}
+use Rattle.clifford.specs.declared.Outcome.{Outcome}
 
 -- `0`, `1` fixed; `2`, `3` random with value 0, 1
 abbrev pub mark_of : Bool → Bool → ℕ

@@ -12,7 +12,8 @@ use Rattle.answers.specs.Verdict.{Verdict, accepted, refused, then}
 use Rattle.clifford.specs.declared.Op.{Op}
 use Rattle.clifford.specs.declared.Op.TheVariants.{Gate as apply, Measure as measure}
 use Rattle.clifford.specs.Tableau.{Rows}
-use Rattle.clifford.specs.Measurement.{Outcome, random_row, random_answer, fixed_answer}
+use Rattle.clifford.specs.declared.Outcome.{Outcome}
+use Rattle.clifford.specs.Measurement.{random_row, random_answer, fixed_answer}
 use Rattle.clifford.specs.Run.{State, begin, coin, settle, step, run}
 use Rattle.tally.specs.Tally.{one_if, randoms, tally_of}
 use Rattle.tally.specs.Parts.Stepping.{none_yet, stepped}

@@ -1,6 +1,6 @@
 -- The tally of a run: how many measurements so far, how many random, how many coins taken. Document 01, "The operations". Assumes nothing.
 use Rattle.std.specs.Prelude.{Bool, true, false, List, [], ◌∷◌, ℕ, ◌+◌, ◌-◌, length}
-use Rattle.clifford.specs.Measurement.{Outcome}
+use Rattle.clifford.specs.declared.Outcome.{Outcome}
 use Rattle.clifford.specs.Run.{State}
 use Rattle.tally.specs.declared.Tally.{Tally}
 

@@ -16,7 +16,8 @@ use Rattle.clifford.specs.declared.After.{After}
 use Rattle.clifford.specs.declared.Op.TheVariants.{Gate as apply, Measure as measure}
 use Rattle.clifford.specs.Gates.{Fits}
 use Rattle.clifford.specs.Tableau.{Rows, gated, start}
-use Rattle.clifford.specs.Measurement.{Outcome, random_row, collapsed, fixed_value, random_answer, fixed_answer}
+use Rattle.clifford.specs.declared.Outcome.{Outcome}
+use Rattle.clifford.specs.Measurement.{random_row, collapsed, fixed_value, random_answer, fixed_answer}
 use Rattle.clifford.specs.Run.{State, begin, coin, afterwards, concluded, settle, step}
 use Rattle.packing.specs.View.{rows_of, Holds}
 use Rattle.columns.specs.Parts.Gated.{Gated}

@@ -4,7 +4,7 @@ use Rattle.limits.specs.Limits.{most_qubits, most_operations}
 use Rattle.answers.specs.Verdict.{accepted}
 use Rattle.clifford.specs.declared.Op.{Op}
 use Rattle.clifford.specs.declared.Op.TheVariants.{Gate as apply, Measure as measure}
-use Rattle.clifford.specs.Measurement.{Outcome}
+use Rattle.clifford.specs.declared.Outcome.{Outcome}
 use Rattle.circuit.specs.Text.{operations, count_measured}
 use Rattle.walking.specs.Parts.Walk.{lines_of}
 use Rattle.print_lines.specs.Line.{outcome_line, refusal_line}
