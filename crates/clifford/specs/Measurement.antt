@@ -7,7 +7,6 @@ use Rattle.pauli.specs.Rows.{Row, times_row, Phased, minus_sign}
 use Rattle.choices.specs.Choices.{chosen_product}
 use Rattle.clifford.specs.declared.Outcome.{Outcome}
 use Rattle.clifford.specs.Tableau.{Rows, alone}
-pub use Rattle.clifford.specs.declared.Outcome.{Outcome}
 
 -- the row has X or Y at a
 abbrev pub has_x : ℕ → Row → Bool
