@@ -1,44 +1,33 @@
 -- What the row product's definition gives in each case that the code tells apart. Assumes nothing.
-use mathlib.Core.Path.{◌≡◌, refl, sym, ◌∙◌, ap}
-use mathlib.Core.Bool.{Bool, true, false, not, ◌&&◌}
+use mathlib.Core.Path.{◌≡◌, sym, ◌∙◌, ap}
+use mathlib.Core.Bool.{Bool, true, false, not}
 use mathlib.Core.List.{List}
 use Prim.Native.Nat.{ℕ, ◌+◌, ◌-◌, ◌%◌, ◌≤◌, ◌<◌}
 use native.Mathlib.Omega.{arith}
 use native.Mathlib.Decide.{dec_lt}
-use lib.Dec.{eqb, leb}
+use lib.Dec.{eqb}
 use lib.ListN.{length, get_or}
-use borrow.Author.Tests.{eq-eqb, ne_eqb, le-leb, lt-leb, lt-ltb, le-ltb}
+use borrow.Author.Tests.{eq-eqb, ne_eqb, le-leb, lt-ltb, le-ltb}
 use Rattle.answers.specs.Verdict.{Verdict, accepted, refused, unless, unless_at}
-use Rattle.answers.proofs.First.{lowest_some, lowest_none}
+use Rattle.answers.proofs.First.{Lowest, lowest_is, lowest_some, lowest_none, none_passes}
+use Rattle.answers.specs.First.{lowest}
+use Rattle.std.specs.Prelude.{None, Some}
 use Rattle.pauli.specs.Rows.{phased, product, anticommute, minus_sign, times_row}
 use Rattle.pauli.specs.Texts.{fits_at, spelled, row_text}
 use Rattle.pauli.proofs.RowLaws.{product-even}
 use Rattle.product.specs.Product.{longest_row, lengths_fit, listed_at, first_bad_of_two, multiplied, product_of}
-use Rattle.product.specs.Parts.Table.{power_number, Bad, letter_text}
+use Rattle.product.specs.Parts.Table.{power_number, first_bad, letter_text}
 use Rattle.product.proofs.Laws.{number_odd, number_sign}
 
+-- what a search finds is the lowest
+found : (f : ℕ → Bool) (n p : ℕ) → Some p ≡ lowest f n → Lowest f n p
+found f n p e = rw (← e) at (lowest_is f n)
+
 module _ (first second : List ℕ) where
-  -- 13
-  refused_13 : lengths_fit first second ≡ false → product_of first second ≡ refused 13 0
-  refused_13 e = ap (λ b. unless b 13 0 (unless_at 10 (first_bad_of_two first second) (multiplied (length first - 1) first second))) e
-
-  and_false : (a b : Bool) → b ≡ false → (a && b) ≡ false
-  and_false true b e = e
-  and_false false b e = refl
-
-  pub differ-13 : (length first ≡ length second → ⊥) → product_of first second ≡ refused 13 0
-  differ-13 h = refused_13 (rw (ne_eqb (length first) (length second) h))
-
-  pub short_13 : length first < 2 → product_of first second ≡ refused 13 0
-  short_13 h = refused_13 (ap (λ b. b && leb (length first) longest_row) (and_false (eqb (length first) (length second)) (leb 2 (length first)) (lt-leb 2 (length first) h)))
-
-  pub long_13 : longest_row < length first → product_of first second ≡ refused 13 0
-  long_13 h = refused_13 (and_false (eqb (length first) (length second) && leb 2 (length first)) (leb (length first) longest_row) (lt-leb (length first) longest_row h))
-
-  module _ (same : length first ≡ length second) (least : 2 ≤ length first) (most : length first ≤ longest_row) where
+  module _ (sizes : (length first ≡ length second) × (2 ≤ length first) × (length first ≤ longest_row)) where
     fit : product_of first second ≡ (unless_at 10 (first_bad_of_two first second) (multiplied (length first - 1) first second))
     fit =
-        let e : lengths_fit first second ≡ true = rw (eq-eqb (length first) (length second) same, le-leb 2 (length first) least, le-leb (length first) longest_row most) in
+        let e : lengths_fit first second ≡ true = rw (eq-eqb (length first) (length second) sizes.0, le-leb 2 (length first) sizes.1, le-leb (length first) longest_row sizes.2) in
         ap (λ b. unless b 13 0 (unless_at 10 (first_bad_of_two first second) (multiplied (length first - 1) first second))) e
 
     at_first : (k : ℕ) → k < length first → listed_at first second k ≡ fits_at k (get_or first k 0)
@@ -49,43 +38,47 @@ module _ (first second : List ℕ) where
         let e : length first + k - length first ≡ k = omega arith in
         rw (le-ltb (length first + k) (length first) (omega arith), e)
 
-    -- 10, in the first row
-    pub first_10 : (k : ℕ) → Bad first k → k < length first → product_of first second ≡ refused 10 k
-    first_10 k b h = fit ∙ ap (λ o. unless_at 10 o (multiplied (length first - 1) first second))
-        (lowest_some (λ i. not (listed_at first second i)) (length first + length second) k (record {
-          below = omega arith;
-          passes = ap not (at_first k h ∙ b.here h);
-          first = λ i l. ap not (at_first i (omega arith) ∙ b.before i l);
-        }))
+    good_first : None ≡ first_bad first → (i : ℕ) → i < length first → not (listed_at first second i) ≡ false
+    good_first a i l = ap not (at_first i l) ∙ none_passes _ (length first) (sym a) i l
 
-    good_first : (k : ℕ) → Bad first k → length first ≤ k → (i : ℕ) → i < length first → not (listed_at first second i) ≡ false
-    good_first k b h i l = ap not (at_first i l ∙ b.before i (omega arith))
-
-    good_second : (m : ℕ) → Bad second m → (i : ℕ) → length first ≤ i → i - length first < m → not (listed_at first second i) ≡ false
+    good_second : (m : ℕ) → ((i : ℕ) → i < m → not (fits_at i (get_or second i 0)) ≡ false) → (i : ℕ) → length first ≤ i → i - length first < m → not (listed_at first second i) ≡ false
     good_second m b i h l =
         let e : length first + (i - length first) ≡ i = omega arith in
-        ap (λ j. not (listed_at first second j)) (sym e) ∙ ap not (at_second (i - length first) ∙ b.before (i - length first) l)
+        ap (λ j. not (listed_at first second j)) (sym e) ∙ ap not (at_second (i - length first)) ∙ b (i - length first) l
 
-    either : (k m : ℕ) → Bad first k → Bad second m → length first ≤ k → (i : ℕ) → i < length first + m → not (listed_at first second i) ≡ false
-    either k m a b h i l = go (dec_lt i (length first))
+    either : None ≡ first_bad first → (m : ℕ) → ((i : ℕ) → i < m → not (fits_at i (get_or second i 0)) ≡ false) → (i : ℕ) → i < length first + m → not (listed_at first second i) ≡ false
+    either a m b i l = go (dec_lt i (length first))
       where
         go : Dec (i < length first) → not (listed_at first second i) ≡ false
-        go (yes q) = good_first k a h i q
+        go (yes q) = good_first a i q
         go (no q) = good_second m b i (omega arith) (omega arith)
 
-    -- 10, in the second
-    pub second_10 : (k m : ℕ) → Bad first k → Bad second m → length first ≤ k → m < length first → product_of first second ≡ refused 10 (length first + m)
-    second_10 k m a b h l = fit ∙ ap (λ o. unless_at 10 o (multiplied (length first - 1) first second))
-        (lowest_some (λ i. not (listed_at first second i)) (length first + length second) (length first + m) (record {
-          below = omega arith;
-          passes = ap not (at_second m ∙ b.here (omega arith));
-          first = either k m a b h;
+    -- 10, in the first row
+    pub first_10 : (k : ℕ) → Some k ≡ first_bad first → product_of first second ≡ refused 10 k
+    first_10 k a =
+        let l = found _ (length first) k a in
+        fit ∙ ap (λ o. unless_at 10 o (multiplied (length first - 1) first second))
+        (lowest_some (λ i. not (listed_at first second i)) (length first + length second) k (record {
+          below = omega (arith, l.below);
+          passes = ap not (at_first k l.below) ∙ l.passes;
+          first = λ i h. ap not (at_first i (omega (arith, l.below))) ∙ l.first i h;
         }))
 
-    module _ (k m : ℕ) (a : Bad first k) (b : Bad second m) (ka : length first ≤ k) (kb : length first ≤ m) where
+    -- 10, in the second
+    pub second_10 : (m : ℕ) → None ≡ first_bad first → Some m ≡ first_bad second → product_of first second ≡ refused 10 (length first + m)
+    second_10 m a b =
+        let l = found _ (length second) m b in
+        fit ∙ ap (λ o. unless_at 10 o (multiplied (length first - 1) first second))
+        (lowest_some (λ i. not (listed_at first second i)) (length first + length second) (length first + m) (record {
+          below = omega (arith, l.below);
+          passes = ap not (at_second m) ∙ l.passes;
+          first = either a m l.first;
+        }))
+
+    module _ (a : None ≡ first_bad first) (b : None ≡ first_bad second) where
       listed : product_of first second ≡ multiplied (length first - 1) first second
       listed = fit ∙ ap (λ o. unless_at 10 o (multiplied (length first - 1) first second))
-          (lowest_none (λ i. not (listed_at first second i)) (length first + length second) (λ i l. either k m a b ka i (omega arith)))
+          (lowest_none (λ i. not (listed_at first second i)) (length first + length second) (either a (length second) (none_passes _ (length second) (sym b))))
 
       module _ (sum : ℕ) (is : sum % 4 ≡ power_number (product (length first - 1) (phased (spelled first)) (phased (spelled second))).phase) where
         anti : anticommute (length first - 1) (spelled first).letters (spelled second).letters ≡ eqb (sum % 2) 1

@@ -1,53 +1,21 @@
--- The laws of the row product's parts: the table by one computed test, powers as numbers, and the bytes of the answer. Assumes nothing.
+-- The laws of the row product's parts: powers as numbers, and the bytes of the answer. Assumes nothing.
 use mathlib.Core.Path.{◌≡◌, refl, sym, ◌∙◌, ap}
-use mathlib.Core.Bool.{Bool, true, false, ◌&&◌, ◌||◌, true≢false}
-use mathlib.Core.List.{List, [], ◌∷◌, ◌++◌}
+use mathlib.Core.Bool.{Bool, true, false, true≢false}
+use mathlib.Core.List.{List, ◌++◌}
 use Prim.Native.Nat.{ℕ, zero, suc, ◌+◌, ◌-◌, ◌*◌, ◌%◌, ◌≤◌, ◌<◌}
 use native.Mathlib.Omega.{arith}
-use lib.Dec.{T, eqb, leb}
+use lib.Dec.{eqb}
 use lib.ListN.{length, get_or, set, take}
 use lib.Seq.{drop-set-lt}
-use borrow.Author.Tests.{eqb-true, leb-true}
+use mir.Val.{bool_byte}
 use Rattle.answers.specs.Verdict.{over}
 use Rattle.answers.proofs.Writing.{written, written_more, written_all, length-written}
-use Rattle.pauli.specs.Letters.{Letter, I, X, Y, Z, Power, i0, i1, i2, i3, ◌⊞◌, sign, odd, ◌·◌, power}
+use Rattle.pauli.specs.Letters.{Power, i0, i1, i2, i3, ◌⊞◌, sign, odd, ◌·◌, power}
 use Rattle.pauli.specs.Rows.{total, mul, minus_sign}
-use Rattle.pauli.specs.Texts.{letter_byte, letter_of, sign_byte, spelled, fits_at}
-use Rattle.pauli.proofs.Cases.{tested, agree, bit, ltr}
-use Rattle.pauli.proofs.LetterLaws.{both, power_adds, add_assoc}
+use Rattle.pauli.specs.Texts.{letter_byte, letter_of, sign_byte, spelled}
+use Rattle.pauli.proofs.LetterLaws.{power_adds, add_assoc}
 use Rattle.pauli.proofs.Listed.{length-listed, get_d_listed}
-use Rattle.product.specs.Parts.Table.{code_of, power_number, letter_text}
-
--- ---- the table
-
-module _ (t : List ℕ) where
-  -- the test of one entry, that its power is a digit; and that it has the product's letter and power
-  abbrev pub has_digit : Letter → Letter → Bool
-  has_digit a b = leb 48 (get_or t (8 * code_of a + 2 * code_of b + 1) 0)
-
-  abbrev pub is_product : Letter → Letter → Bool
-  is_product a b = eqb (get_or t (8 * code_of a + 2 * code_of b) 0) (letter_byte (a · b)) && eqb (get_or t (8 * code_of a + 2 * code_of b + 1) 0) (48 + power_number (power a b))
-
-  -- each test over all sixteen entries is computed for the table that a function has
-  module _ (ok : T (agree (ltr ∷ ltr ∷ []) bit has_digit (λ _ _. true))) (a b : Letter) {k l : ℕ} (ek : k ≡ code_of a) (el : l ≡ code_of b) where
-    pub digit_least : 48 ≤ get_or t (8 * k + 2 * l + 1) 0
-    digit_least = rw (ek, el) (leb-true 48 (get_or t (8 * code_of a + 2 * code_of b + 1) 0) (tested (ltr ∷ ltr ∷ []) bit has_digit (λ _ _. true) ok a b))
-
-  module _ (ok : T (agree (ltr ∷ ltr ∷ []) bit is_product (λ _ _. true))) (a b : Letter) {k l : ℕ} (ek : k ≡ code_of a) (el : l ≡ code_of b) where
-    passed : (eqb (get_or t (8 * code_of a + 2 * code_of b) 0) (letter_byte (a · b)) ≡ true) × (eqb (get_or t (8 * code_of a + 2 * code_of b + 1) 0) (48 + power_number (power a b)) ≡ true)
-    passed = both _ _ (tested (ltr ∷ ltr ∷ []) bit is_product (λ _ _. true) ok a b)
-
-    pub letter_right : get_or t (8 * k + 2 * l) 0 ≡ letter_byte (a · b)
-    letter_right = rw (ek, el) (eqb-true _ _ passed.0)
-
-    pub power_right : get_or t (8 * k + 2 * l + 1) 0 - 48 ≡ power_number (power a b)
-    power_right = rw (ek, el) (omega (arith, eqb-true (get_or t (8 * code_of a + 2 * code_of b + 1) 0) (48 + power_number (power a b)) passed.1))
-
-pub code_below : (l : Letter) → code_of l ≤ 3
-code_below I = omega arith
-code_below X = omega arith
-code_below Y = omega arith
-code_below Z = omega arith
+use Rattle.product.specs.Parts.Table.{power_number, letter_text}
 
 -- ---- powers as numbers
 
@@ -84,14 +52,6 @@ number_sign i3 e = absurd (true≢false e)
 
 -- ---- bytes
 
--- behind the sign stand letters
-pub letter_place : (k b : ℕ) → (k ≡ 0 → ⊥) → ((eqb b 73 || eqb b 88) || eqb b 89) || eqb b 90 ≡ fits_at k b
-letter_place zero b h = absurd (h refl)
-letter_place (suc k) b h = law (eqb b 73) (eqb b 88) (eqb b 89) (eqb b 90)
-  where
-    law : (p q r s : Bool) → ((p || q) || r) || s ≡ p || q || r || s
-    law = tested (bit ∷ bit ∷ bit ∷ bit ∷ []) bit _ _ tt
-
 module _ (first second : List ℕ) (minus : Bool) where
   pub text_length : 1 ≤ length first → length (letter_text first second minus) ≡ length first
   text_length h =
@@ -113,12 +73,21 @@ pub record Summed (first second : List ℕ) (sum k : ℕ) : Type 0 where
   pub most : sum ≤ 4 + 3 * k
   pub is : sum % 4 ≡ power_number (phase_below first second (k - 1))
 
-pub sum-none : (first second : List ℕ) (a b : ℕ) → a ≡ power_number (sign (eqb (get_or first 0 0) 45)) → b ≡ power_number (sign (eqb (get_or second 0 0) 45)) → Summed first second (a + b) 1
-sum-none first second a b ea eb = record {
-  least = omega arith;
-  most = omega (arith, number_below (sign (eqb (get_or first 0 0) 45)), number_below (sign (eqb (get_or second 0 0) 45)));
-  is = rw (ea, eb) (number_plus (sign (eqb (get_or first 0 0) 45)) (sign (eqb (get_or second 0 0) 45)) ∙ ap power_number (sym (power_adds.right (sign (eqb (get_or first 0 0) 45) ⊞ sign (eqb (get_or second 0 0) 45)))));
-}
+-- a minus counts as two
+minus_number : (b : Bool) → 2 * bool_byte b ≡ power_number (sign b)
+minus_number true = refl
+minus_number false = refl
+
+pub sum-none : (first second : List ℕ) → Summed first second (2 * (bool_byte (eqb (get_or first 0 0) 45) + bool_byte (eqb (get_or second 0 0) 45))) 1
+sum-none first second =
+    let p = eqb (get_or first 0 0) 45 in
+    let q = eqb (get_or second 0 0) 45 in
+    let e : 2 * (bool_byte p + bool_byte q) ≡ power_number (sign p) + power_number (sign q) = omega (arith, minus_number p, minus_number q) in
+    record {
+      least = omega arith;
+      most = omega (arith, e, number_below (sign p), number_below (sign q));
+      is = rw e (number_plus (sign p) (sign q) ∙ ap power_number (sym (power_adds.right (sign p ⊞ sign q))));
+    }
 
 pub sum_more : (first second : List ℕ) (sum k x : ℕ) → Summed first second sum k → x ≡ power_number (power (letter_of (get_or first k 0)) (letter_of (get_or second k 0))) → Summed first second (sum + x) (k + 1)
 sum_more first second sum zero x s e = absurd (omega (arith, s.least))

@@ -1,34 +1,38 @@
 // The product of two Pauli rows: two row texts are lent, and a buffer for the answer.
 #![tactic(auto)]
 
-ghost use Rattle.std.specs.Prelude.{◌≡◌, ◌≤◌, ◌-◌, ◌%◌, eqb, length};
+ghost use Rattle.std.specs.Prelude.{◌≡◌, ◌≤◌, ◌-◌, ◌%◌, length};
 ghost use Rattle.answers.specs.Refusals.{Writes};
 ghost use Rattle.answers.specs.Verdict.{over};
-ghost use Rattle.pauli.specs.Letters.{sign};
 ghost use Rattle.pauli.specs.Rows.{product, phased};
-ghost use Rattle.pauli.specs.Texts.{letter_of, fits_at, spelled, sign_byte};
-ghost use Rattle.product.specs.Parts.Table.{code_of, power_number, Tabled, Bad, letter_text};
+ghost use Rattle.pauli.specs.Texts.{letter_of, fits_at, spelled};
+ghost use Rattle.product.specs.Parts.Table.{code_of, power_number, Tabled, first_bad, letter_text};
 ghost use Rattle.product.specs.Product.{longest_row, product_of};
 
-use answers::{Refusal, Written};
+use answers::Refusal;
 
-// The sixteen products of two letters, each its letter and its power of i: for the left factors I, X, Y, Z in turn, the right factors in the same order.
-const PRODUCTS: [u8; 32] = *b"I0X0Y0Z0X0I0Z1Y3Y0Z3I0X1Z0Y1X3I0";
-
-#[derive(Drop)]
+#[derive(Clone, Copy, Debug, PartialEq, Eq)]
 pub struct Entry {
     pub letter: u8,
     pub power: u8,
 }
+
+// The sixteen products of two letters, each its letter and its power of i: a line for each left factor I, X, Y, Z, with the right factors in the same order.
+const PRODUCTS: [[(u8, u8); 4]; 4] = [
+    [(b'I', 0), (b'X', 0), (b'Y', 0), (b'Z', 0)],
+    [(b'X', 0), (b'I', 0), (b'Z', 1), (b'Y', 3)],
+    [(b'Y', 0), (b'Z', 3), (b'I', 0), (b'X', 1)],
+    [(b'Z', 0), (b'Y', 1), (b'X', 3), (b'I', 0)],
+];
 
 // I, X, Y, Z as 0 to 3.
 fn code(b: u8) -> usize
     ensures { result ≡ code_of (letter_of b) }
 {
     match b {
-        88 => 1,
-        89 => 2,
-        90 => 3,
+        b'X' => 1,
+        b'Y' => 2,
+        b'Z' => 3,
         _ => 0,
     }
 }
@@ -36,11 +40,8 @@ fn code(b: u8) -> usize
 fn multiply(a: u8, b: u8) -> Entry
     ensures { Tabled a b result }
 {
-    let at = 8 * code(a) + 2 * code(b);
-    Entry {
-        letter: PRODUCTS[at],
-        power: PRODUCTS[at + 1] - 48,
-    }
+    let (letter, power) = PRODUCTS[code(a)][code(b)];
+    Entry { letter, power }
 }
 
 // The byte is one listed for place k of a row's text.
@@ -48,36 +49,22 @@ fn fits(k: usize, b: u8) -> bool
     ensures { result ≡ fits_at k b }
 {
     if k == 0 {
-        (b == 43) | (b == 45)
+        pauli::is_sign(b)
     } else {
-        (b == 73) | (b == 88) | (b == 89) | (b == 90)
+        pauli::is_letter(b)
     }
 }
 
-// The first place with a byte that is not listed, or the length.
-fn bad(s: &[u8]) -> usize
-    ensures { Bad s.now result }
+// The first place with a byte that is not listed.
+fn first_bad(s: &[u8]) -> Option<usize>
+    ensures { result ≡ first_bad s.now }
 {
-    let mut k = 0;
-    while k < s.len() {
-        if !fits(k, s[k]) {
-            return k;
+    for (k, b) in s.iter().enumerate() {
+        if !fits(k, *b) {
+            return Some(k);
         }
-        k += 1;
     }
-    k
-}
-
-fn minus(b: u8) -> u64
-    ensures { result ≡ power_number (sign (eqb b 45)) }
-{
-    if b == 45 { 2 } else { 0 }
-}
-
-fn wide(x: u8) -> u64
-    ensures { result ≡ x }
-{
-    x as u64
+    None
 }
 
 // The power of i before the product: the letters' powers and two for each minus, not yet reduced.
@@ -85,27 +72,11 @@ fn power_sum(first: &[u8], second: &[u8]) -> u64
     requires { (length first.now ≡ length second.now) × (1 ≤ length first.now) × (length first.now ≤ longest_row) }
     ensures { result % 4 ≡ power_number (product (length first.now - 1) (phased (spelled first.now)) (phased (spelled second.now))).phase }
 {
-    let mut sum = minus(first[0]) + minus(second[0]);
-    let mut k = 1;
-    while k < first.len() {
-        let e = multiply(first[k], second[k]);
-        sum += wide(e.power);
-        k += 1;
+    let mut sum = 2 * (u64::from(first[0] == b'-') + u64::from(second[0] == b'-'));
+    for k in 1..first.len() {
+        sum += u64::from(multiply(first[k], second[k]).power);
     }
     sum
-}
-
-// The sign of an even power.
-fn is_minus(sum: u64) -> bool
-    ensures { result ≡ eqb (sum % 4) 2 }
-{
-    sum % 4 == 2
-}
-
-fn sign_of(minus: bool) -> u8
-    ensures { result ≡ sign_byte minus }
-{
-    if minus { b'-' } else { b'+' }
 }
 
 // The product's text: its sign, and letter by letter.
@@ -113,43 +84,32 @@ fn write(first: &[u8], second: &[u8], minus: bool, out: &mut [u8])
     requires { (length first.now ≡ length second.now) × (1 ≤ length first.now) × (length first.now ≤ length out.old) }
     ensures { out.new ≡ over (letter_text first.now second.now minus) out.old }
 {
-    out[0] = sign_of(minus);
-    let mut k = 1;
-    while k < first.len() {
-        let e = multiply(first[k], second[k]);
-        out[k] = e.letter;
-        k += 1;
+    out[0] = pauli::sign_byte(minus);
+    for k in 1..first.len() {
+        out[k] = multiply(first[k], second[k]).letter;
     }
 }
 
-pub fn product(first: &[u8], second: &[u8], out: &mut [u8]) -> Written
+pub fn product(first: &[u8], second: &[u8], out: &mut [u8]) -> Result<usize, Refusal>
     ensures { Writes (product_of first.now second.now) out.old result out.new }
 {
     let size = first.len();
-    if size != second.len() {
-        return Written::Refused(Refusal::RowLengths);
+    if size != second.len() || size < 2 || limits::LONGEST_ROW < size {
+        return Err(Refusal::RowLengths);
     }
-    if size < 2 {
-        return Written::Refused(Refusal::RowLengths);
+    if let Some(one) = first_bad(first) {
+        return Err(Refusal::BadByte(one));
     }
-    if limits::LONGEST_ROW < size {
-        return Written::Refused(Refusal::RowLengths);
-    }
-    let one = bad(first);
-    if one < size {
-        return Written::Refused(Refusal::BadByte(one));
-    }
-    let two = bad(second);
-    if two < size {
-        return Written::Refused(Refusal::BadByte(size + two));
+    if let Some(two) = first_bad(second) {
+        return Err(Refusal::BadByte(size + two));
     }
     let sum = power_sum(first, second);
     if sum % 2 == 1 {
-        return Written::Refused(Refusal::Anticommuting);
+        return Err(Refusal::Anticommuting);
     }
     if out.len() < size {
-        return Written::Refused(Refusal::NoRoom);
+        return Err(Refusal::NoRoom);
     }
-    write(first, second, is_minus(sum), out);
-    Written::Bytes(size)
+    write(first, second, sum % 4 == 2, out);
+    Ok(size)
 }

@@ -1,5 +1,6 @@
 -- What the parts of the row product promise one another: the table's entries, the first bad byte of a row, the summed power, the written letters. Assumes nothing.
-use Rattle.std.specs.Prelude.{Bool, true, false, List, ◌≡◌, ℕ, ◌-◌, ◌≤◌, ◌<◌, length, get_or}
+use Rattle.std.specs.Prelude.{Bool, not, List, ◌≡◌, ℕ, ◌-◌, length, get_or, Option}
+use Rattle.answers.specs.First.{lowest}
 use Rattle.pauli.specs.Letters.{Letter, I, X, Y, Z, Power, i0, i1, i2, i3, ◌·◌, power}
 use Rattle.pauli.specs.Rows.{mul}
 use Rattle.pauli.specs.Texts.{letter_byte, letter_of, fits_at, row_text, spelled}
@@ -24,11 +25,9 @@ pub record Tabled (a b : ℕ) (e : Entry) : Type 0 where
   pub letter : e.letter ≡ letter_byte (letter_of a · letter_of b)
   pub power : e.power ≡ power_number (power (letter_of a) (letter_of b))
 
--- r is the first place of the row's text with a byte that is not listed, or its length
-pub record Bad (s : List ℕ) (r : ℕ) : Type 0 where
-  pub within : r ≤ length s
-  pub before : (k : ℕ) → k < r → fits_at k (get_or s k 0) ≡ true
-  pub here : r < length s → fits_at r (get_or s r 0) ≡ false
+-- the first place of a row's text with a byte that is not listed
+abbrev pub first_bad : List ℕ → Option ℕ
+first_bad s = lowest (λ k. not (fits_at k (get_or s k 0))) (length s)
 
 -- the text of a row with this sign and the letters of the product
 abbrev pub letter_text : List ℕ → List ℕ → Bool → List ℕ
