@@ -2,11 +2,12 @@
 use mathlib.Core.Path.{◌≡◌, refl, sym, ◌∙◌, ap, ap₂}
 use mathlib.Core.List.{List, [], ◌∷◌}
 use Prim.Native.Nat.{ℕ, zero, suc, ◌+◌, ◌*◌, ◌/◌, ◌%◌, ◌^◌, ◌<◌}
-use native.Mathlib.Nat.{div-lt_iff_lt-mul, pow-suc}
+use native.Mathlib.Nat.{div-lt_iff_lt-mul, div-div-eq-div-mul, pow-suc}
 use native.Mathlib.Decide.{dec_lt}
 use native.Mathlib.Omega.{arith}
 use lib.ListN.{length, get_or, take, drop, length-take, get_or-eq_default}
 use lib.Seq.{get_or-take, get_or-drop}
+use Rattle.std.specs.Int.{w16, w32, to_le_bytes, from_le_bytes}
 use Rattle.records.specs.Record.{low_first}
 use Rattle.records.specs.Reading.{number_in}
 
@@ -43,3 +44,32 @@ bytes_take k s h i = go (dec_lt i k)
     go : Dec (i < k) → get_or (take k s) i 0 < 256
     go (yes l) = rw (get_or-take k s i 0 l) (h i)
     go (no l) = rw (get_or-eq_default (take k s) 0 {n = i} (omega (arith, length-take k s))) (omega arith)
+
+-- ---- as the library writes and reads numbers of two and of four bytes
+
+pub low_two : (v : ℕ) → to_le_bytes w16 v ≡ low_first 2 v
+unfolding low_first
+low_two v = refl
+
+pub low_four : (v : ℕ) → to_le_bytes w32 v ≡ low_first 4 v
+unfolding low_first
+low_four v =
+    let b : v / 65536 ≡ v / 256 / 256 = sym (div-div-eq-div-mul v 256 256) in
+    let c : v / 16777216 ≡ v / 256 / 256 / 256 = sym (div-div-eq-div-mul v 65536 256) ∙ ap (λ (q : ℕ). q / 256) b in
+    ap₂ (λ (q r : ℕ). v % 256 ∷ v / 256 % 256 ∷ q % 256 ∷ r % 256 ∷ []) b c
+
+pub in_two : (s : List ℕ) → length s ≡ 2 → from_le_bytes w16 s ≡ number_in s
+unfolding number_in
+in_two [] h = absurd (omega arith)
+in_two (a ∷ []) h = absurd (omega arith)
+in_two (a ∷ b ∷ []) h = omega arith
+in_two (a ∷ b ∷ c ∷ s) h = absurd (omega arith)
+
+pub in_four : (s : List ℕ) → length s ≡ 4 → from_le_bytes w32 s ≡ number_in s
+unfolding number_in
+in_four [] h = absurd (omega arith)
+in_four (a ∷ []) h = absurd (omega arith)
+in_four (a ∷ b ∷ []) h = absurd (omega arith)
+in_four (a ∷ b ∷ c ∷ []) h = absurd (omega arith)
+in_four (a ∷ b ∷ c ∷ d ∷ []) h = omega arith
+in_four (a ∷ b ∷ c ∷ d ∷ e ∷ s) h = absurd (omega arith)

@@ -1,30 +1,21 @@
 -- Planes made byte by byte out of words, and the test of one bit of a byte. Assumes nothing.
 use mathlib.Core.Path.{◌≡◌, sym, ◌∙◌, ap}
-use mathlib.Core.Bool.{Bool, ◌&&◌, and-true}
 use mathlib.Core.List.{List}
 use Prim.Native.Nat.{ℕ, zero, suc, ◌+◌, ◌-◌, ◌*◌, ◌/◌, ◌%◌, ◌^◌, ◌≤◌, ◌<◌}
 use native.Mathlib.Decide.{dec_lt}
 use native.Mathlib.Nat.{mod-lt, zero-lt-suc, mod-eq_of_lt, one-mul, zero-mul}
 use native.Mathlib.Omega.{arith}
-use lib.Bits.{bit_and, and_mask, and_high}
+use lib.Bits.{bit_and, and_high}
 use lib.Dec.{eqb}
 use lib.ListN.{length, get_or, set, length-set}
-use lib.Pow.{pow_pos, pow-lt, pow-add, shr-shr}
+use lib.Pow.{pow_pos, pow-lt, pow-add}
 use lib.Seq.{get_or-set_same, get_or-set_other}
 use borrow.Author.Tests.{eq-eqb, ne_eqb}
 use Rattle.words.specs.Bit.{bit}
-use Rattle.words.proofs.BitLaws.{bit-and, bit-ones}
 use Rattle.limits.specs.Limits.{most_qubits}
-use Rattle.writing.specs.Parts.Planes.{byte_place, plane_size, byte_of, Filled, plane_bit, PlaneOf}
-
--- ---- bits of a byte of a word
-
-low_bit : (k v : ℕ) → k < 8 → bit k (v % 256) ≡ bit k v
-low_bit k v h = ap (bit k) (sym (and_mask v 8)) ∙ bit-and k v (2 ^ 8 - 1) ∙ ap (λ (b : Bool). bit k v && b) (bit-ones 8 k h) ∙ and-true (bit k v)
-
-shifted_bit : (k s v : ℕ) → bit k (v / 2 ^ s) ≡ bit (s + k) v
-unfolding bit
-shifted_bit k s v = ap (λ (q : ℕ). eqb (q % 2) 1) (shr-shr v s k)
+use Rattle.packing.specs.Planes.{byte_place, plane_size}
+use Rattle.words.proofs.Bytes.{byte_bit}
+use Rattle.writing.specs.Parts.Planes.{byte_of, Filled, PlaneOf}
 
 -- ---- a plane
 
@@ -62,18 +53,11 @@ module _ (w : List ℕ) (slot n : ℕ) (p : List ℕ) where
       go q j ql jl (yes l) = f.filled.bytes q j ql l
       go q j ql jl (no l) =
           let k : j ≡ n = omega arith in
-          rw k (f.next q (omega arith))
+          ap (λ (m : ℕ). get_or p (byte_place q m) 0) k ∙ f.next q (omega arith) ∙ ap (byte_of w slot q) (sym k)
 
   -- a plane whose bytes are there
   pub plane_made : Filled w slot n p → PlaneOf w slot n p
-  plane_made f = record { bits = row }
-    where
-      row : (i j : ℕ) → i < 64 → j < n → plane_bit p i j ≡ bit i (get_or w (8 * j + slot) 0)
-      row i j h l =
-          let word = get_or w (8 * j + slot) 0 in
-          let c : 8 * (i / 8) + i % 8 ≡ i = omega arith in
-          ap (bit (i % 8)) (f.bytes (i / 8) j (omega arith) l) ∙ low_bit (i % 8) (word / 2 ^ (8 * (i / 8))) (omega arith) ∙ shifted_bit (i % 8) (8 * (i / 8)) word
-          ∙ ap (λ (m : ℕ). bit m word) c
+  plane_made f = record { bits = λ i j h l. ap (bit (i % 8)) (f.bytes (i / 8) j (omega arith) l) ∙ byte_bit (get_or w (8 * j + slot) 0) i h }
 
 -- ---- the test of a bit
 

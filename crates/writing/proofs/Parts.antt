@@ -9,15 +9,20 @@ use Rattle.answers.specs.Verdict.{over}
 use Rattle.packing.specs.View.{rows_of}
 use Rattle.records.specs.Record.{low_first, to_rows, trailer, rows_text, record_with, record_length}
 use Rattle.records.proofs.Lengths.{length-trailer}
+use Rattle.records.proofs.Numbers.{low_two, low_four}
+use Rattle.std.specs.Int.{w16, w32, to_le_bytes}
 use Rattle.writing.specs.Parts.Placed.{placed, texts_from}
 use Rattle.writing.proofs.Placing.{placed_front, then_placed}
 use Rattle.writing.proofs.Texts.{length-texts, texts_all}
 
 pub trailer_placed : (old a b c d : List ℕ) (at n count rows : ℕ) → rows ≡ to_rows n → at + 12 ≤ length old
-    → a ≡ placed old at (low_first 4 rows) → b ≡ placed a (at + 4) (low_first 4 (rows + count)) → c ≡ placed b (at + 8) (low_first 2 n) → d ≡ placed c (at + 10) (0x53 ∷ 0x52 ∷ [])
+    → a ≡ placed old at (to_le_bytes w32 rows) → b ≡ placed a (at + 4) (to_le_bytes w32 (rows + count)) → c ≡ placed b (at + 8) (to_le_bytes w16 n) → d ≡ placed c (at + 10) (0x53 ∷ 0x52 ∷ [])
     → d ≡ placed old at (trailer n count)
 unfolding trailer low_first
-trailer_placed old a b c d at n count rows e h ea eb ec ed =
+trailer_placed old a b c d at n count rows e h fa fb fc ed =
+    let ea : a ≡ placed old at (low_first 4 rows) = fa ∙ ap (placed old at) (low_four rows) in
+    let eb : b ≡ placed a (at + 4) (low_first 4 (rows + count)) = fb ∙ ap (placed a (at + 4)) (low_four (rows + count)) in
+    let ec : c ≡ placed b (at + 8) (low_first 2 n) = fc ∙ ap (placed b (at + 8)) (low_two n) in
     let one = low_first 4 rows in
     let two = one ++ low_first 4 (rows + count) in
     let all = two ++ low_first 2 n in

@@ -1,12 +1,13 @@
 -- Laws of a text placed in a buffer: nothing placed, one byte more, and one text behind another. Assumes nothing.
 use mathlib.Core.Path.{◌≡◌, refl, sym, ◌∙◌, ap, ap₂}
 use mathlib.Core.List.{List, [], ◌∷◌, ◌++◌, append_assoc, append-nil}
-use Prim.Native.Nat.{ℕ, suc, ◌+◌, ◌≤◌, ◌<◌}
+use Prim.Native.Nat.{ℕ, suc, ◌+◌, ◌-◌, ◌≤◌, ◌<◌}
 use native.Mathlib.Nat.{add-zero, zero-add}
 use native.Mathlib.Numerals.{add-one}
 use native.Mathlib.Omega.{arith}
 use lib.ListN.{length, take, drop, set, length-append, length-take, length-drop, take-append-drop}
 use lib.Seq.{length-take-le, take_at, drop_at, drop-drop, set_split, append_snoc}
+use borrow.Rule.Slice.PartMut.{put_mid}
 use Rattle.answers.specs.Verdict.{over}
 use Rattle.writing.specs.Parts.Placed.{placed}
 
@@ -21,6 +22,13 @@ placed_front old text = ap (λ (k : ℕ). text ++ drop k old) (zero-add (length 
 pub length-placed : (old : List ℕ) (at : ℕ) (s : List ℕ) → at + length s ≤ length old → length (placed old at s) ≡ length old
 unfolding placed
 length-placed old at s h = simp (length-append, length-take, length-drop) (omega arith)
+
+-- a text that is copied into its place
+pub mid_placed : (old text new : List ℕ) (at : ℕ) → new ≡ text → put_mid at (at + length text - at) old new ≡ placed old at text
+unfolding placed
+mid_placed old text new at e =
+    let n : at + length text - at ≡ length text = omega arith in
+    sym (append_assoc (take at old) new (drop (at + length text - at) (drop at old))) ∙ ap₂ (λ (s t : List ℕ). take at old ++ s ++ t) e (ap (λ (k : ℕ). drop k (drop at old)) n ∙ drop-drop (length text) at old)
 
 -- a text that is placed where the one before it ends
 pub placed_more : (old : List ℕ) (at : ℕ) (s t : List ℕ) (p : ℕ) → p ≡ at + length s → p + length t ≤ length old → placed (placed old at s) p t ≡ placed old at (s ++ t)

@@ -17,40 +17,42 @@ use Rattle.records.specs.Record.{joined}
 use Rattle.records.proofs.Joined.{listed_more, listed_split, joined_append, joined_more}
 use Rattle.records.proofs.Lengths.{length-row_text, length-joined}
 use Rattle.writing.specs.Parts.Placed.{placed, texts_from}
-use Rattle.writing.specs.Parts.Planes.{PlaneOf, plane_letter, plane_row}
+use Rattle.packing.specs.Planes.{plane_letter}
+use Rattle.packing.specs.declared.Planes.{Planes}
+use Rattle.writing.specs.Parts.Planes.{PlanesOf, plane_row}
 use Rattle.writing.proofs.Placing.{set_placed, then_placed}
 
 -- ---- one more letter
 
-module _ (xs zs : List ℕ) (i : ℕ) where
+module _ (p : Planes) (i : ℕ) where
   -- the first k letters of row i
   unfoldable pub row_letters : ℕ → List ℕ
-  row_letters k = listed (λ j. letter_byte (plane_letter xs zs i j)) k
+  row_letters k = listed (λ j. letter_byte (plane_letter p.x p.z i j)) k
 
   pub row_letters_none : row_letters 0 ≡ []
   unfolding row_letters listed
   row_letters_none = refl
 
-  pub row_letters_more : (k b : ℕ) → b ≡ letter_byte (plane_letter xs zs i k) → row_letters k ++ b ∷ [] ≡ row_letters (k + 1)
+  pub row_letters_more : (k b : ℕ) → b ≡ letter_byte (plane_letter p.x p.z i k) → row_letters k ++ b ∷ [] ≡ row_letters (k + 1)
   unfolding row_letters
   row_letters_more k b e =
-      ap (λ (a : ℕ). row_letters k ++ a ∷ []) e ∙ sym (listed_more (λ j. letter_byte (plane_letter xs zs i j)) k) ∙ ap (listed (λ j. letter_byte (plane_letter xs zs i j))) (sym (add-one k))
+      ap (λ (a : ℕ). row_letters k ++ a ∷ []) e ∙ sym (listed_more (λ j. letter_byte (plane_letter p.x p.z i j)) k) ∙ ap (listed (λ j. letter_byte (plane_letter p.x p.z i j))) (sym (add-one k))
 
   pub length-row_letters : (k : ℕ) → length (row_letters k) ≡ k
   unfolding row_letters
-  length-row_letters k = length-listed (λ j. letter_byte (plane_letter xs zs i j)) k
+  length-row_letters k = length-listed (λ j. letter_byte (plane_letter p.x p.z i j)) k
 
   -- a sign, and the letters behind it
-  pub row_placed : (signs n : ℕ) (old : List ℕ) (at b : ℕ) → at + (n + 1) ≤ length old → b ≡ sign_byte (bit i signs) → placed (set old at b) (at + 1) (row_letters n) ≡ placed old at (row_text n (plane_row xs zs signs i))
+  pub row_placed : (n : ℕ) (old : List ℕ) (at b : ℕ) → at + (n + 1) ≤ length old → b ≡ sign_byte (bit i p.signs) → placed (set old at b) (at + 1) (row_letters n) ≡ placed old at (row_text n (plane_row p i))
   unfolding row_letters
-  row_placed signs n old at b h e =
+  row_placed n old at b h e =
       then_placed old (set old at b) at (b ∷ []) (set_placed old at b (omega arith)) _ (at + 1) (row_letters n) refl refl (omega (arith, length-row_letters n))
       ∙ ap (λ a. placed old at (a ∷ row_letters n)) e
 
 -- ---- one more row
 
 -- the row that planes hold of a word is the row of the words
-module _ (w xs zs : List ℕ) (g n : ℕ) (px : PlaneOf w g n xs) (pz : PlaneOf w (4 + g) n zs) (i : ℕ) (h : i < 64) where
+module _ (w : List ℕ) (p : Planes) (g n : ℕ) (of : PlanesOf w g n p) (i : ℕ) (h : i < 64) where
   -- bit i of word g from o on
   in_word : (o m : ℕ) → o + g ≡ m → bit i (get_or w m 0) ≡ bit_at w o (64 * g + i)
   in_word o m e =
@@ -58,15 +60,15 @@ module _ (w xs zs : List ℕ) (g n : ℕ) (px : PlaneOf w g n xs) (pz : PlaneOf 
       let b : m ≡ o + (64 * g + i) / 64 = omega arith in
       ap₂ (λ (p q : ℕ). bit p (get_or w q 0)) a b
 
-  same_letter : (j : ℕ) → j < n → letter_byte (plane_letter xs zs i j) ≡ letter_byte (guard n (letter_at w (64 * g + i)) j)
+  same_letter : (j : ℕ) → j < n → letter_byte (plane_letter p.x p.z i j) ≡ letter_byte (guard n (letter_at w (64 * g + i)) j)
   same_letter j l =
-      ap₂ (λ (a b : Bool). letter_byte (letter a b)) (px.bits i j h l ∙ in_word (8 * j) (8 * j + g) refl) (pz.bits i j h l ∙ in_word (8 * j + 4) (8 * j + (4 + g)) (omega arith))
+      ap₂ (λ (a b : Bool). letter_byte (letter a b)) (of.xs.bits i j h l ∙ in_word (8 * j) (8 * j + g) refl) (of.zs.bits i j h l ∙ in_word (8 * j + 4) (8 * j + (4 + g)) (omega arith))
       ∙ ap letter_byte (sym (guard_in n (letter_at w (64 * g + i)) j l))
 
-  pub plane_placed : (old new : List ℕ) (at : ℕ) → new ≡ placed old at (row_text n (plane_row xs zs (get_or w (sign_words + g) 0) i)) → new ≡ placed old at (row_text n (row_at n w (64 * g + i)))
+  pub plane_placed : (old new : List ℕ) (at : ℕ) → new ≡ placed old at (row_text n (plane_row p i)) → new ≡ placed old at (row_text n (row_at n w (64 * g + i)))
   unfolding row_at
   plane_placed old new at e =
-      e ∙ ap₂ (λ (b : Bool) (t : List ℕ). placed old at (sign_byte b ∷ t)) (in_word sign_words (sign_words + g) refl) (listed_ext _ _ n same_letter)
+      e ∙ ap₂ (λ (b : Bool) (t : List ℕ). placed old at (sign_byte b ∷ t)) (ap (bit i) of.signs ∙ in_word sign_words (sign_words + g) refl) (listed_ext _ _ n same_letter)
 
 module _ (n : ℕ) (w : List ℕ) (s : ℕ) where
   abbrev one_text : ℕ → List ℕ

@@ -1,15 +1,11 @@
+use mathlib.Core.Path.{◌∙◌, ap}
+use Rattle.writing.specs.Parts.Placed.{placed}
 use Rattle.writing.proofs.Parts.{trailer_placed}
-use native.Mathlib.Omega.{arith}
-use Rattle.limits.specs.Limits.{most_qubits}
-use Rattle.records.proofs.Lengths.{square_below}
 use Rattle.writing.proofs.put_trailer.Goals as goal
-
-pub overflow_add-rows : goal.overflow_add-rows
-overflow_add-rows c = omega (arith, square_below c.args.n {m = most_qubits} (omega arith), c.distance-rows.ensures)
 
 pub returns : goal.returns
 returns c =
-    let d = c in
-    let e = d in
-    trailer_placed e.args.out.now _ _ _ _ e.args.at e.args.n e.args.count _ d.distance-rows.ensures e.requires.2
-    d.put_four.ensures d.put_four-2.ensures c.put_two.ensures c.put_pair.ensures
+    let e = c.args in
+    trailer_placed e.out.now _ _ _ _ e.at e.n e.count _ c.distance-rows.ensures c.requires.2
+    (c.put.ensures ∙ ap (placed _ _) c.to_le_bytes.ensures) (c.put-2.ensures ∙ ap (placed _ _) c.to_le_bytes-2.ensures)
+    (c.put-3.ensures ∙ ap (placed _ _) c.to_le_bytes-3.ensures) c.put-4.ensures
