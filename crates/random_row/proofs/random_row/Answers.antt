@@ -29,15 +29,15 @@ overflow_cast-q c = small _
 
 pub returns-then-p-lt64 : goal.returns-then-p-lt64
 returns-then-p-lt64 c =
-    let e = c in
-    found_in e.args.n e.args.w.now e.args.a e.requires.0 e.requires.1 e.requires.2 0 _ (λ k l. absurd (omega arith)) c.if-p-lt64.true (omega arith) (omega (arith, c.if-p-lt64.true))
+    let r = c.args.rows.now in
+    found_in r.qubits r.words c.args.a r.holds r.few c.requires 0 _ (λ k l. absurd (omega arith)) c.if-p-lt64.true (omega arith) (omega (arith, c.if-p-lt64.true))
 
 pub returns-then-q-lt64 : goal.returns-then-q-lt64
 returns-then-q-lt64 c =
-    let e = c in
-    found_in e.args.n e.args.w.now e.args.a e.requires.0 e.requires.1 e.requires.2 1 _ (only _ c.if-p-lt64.false) c.if-q-lt64.true refl (omega (arith, c.if-q-lt64.true))
+    let r = c.args.rows.now in
+    found_in r.qubits r.words c.args.a r.holds r.few c.requires 1 _ (only _ c.if-p-lt64.false) c.if-q-lt64.true refl (omega (arith, c.if-q-lt64.true))
 
 pub returns-else-q-lt64 : goal.returns-else-q-lt64
 returns-else-q-lt64 c =
-    let e = c in
-    found_none e.args.n e.args.w.now e.args.a e.requires.0 e.requires.1 e.requires.2 (both _ c.if-p-lt64.false c.if-q-lt64.false)
+    let r = c.args.rows.now in
+    found_none r.qubits r.words c.args.a r.holds r.few c.requires (both _ c.if-p-lt64.false c.if-q-lt64.false)
