@@ -2,7 +2,8 @@
 use mathlib.Core.Bool.{Bool, true, false, cond}
 use mathlib.Core.List.{List, [], ◌∷◌}
 use mathlib.Core.Logic.{◌⊎◌, inl, inr, ⊎_elim}
-use mathlib.Core.Path.{◌≡◌, refl, ◌∙◌, ap}
+use mathlib.Core.Path.{◌≡◌, refl, sym, ◌∙◌, ap}
+use Rattle.std.specs.Prelude.{None, Some}
 use Prim.Native.Nat.{ℕ, zero, suc, ◌+◌, ◌-◌, ◌*◌, ◌^◌, ◌≤◌, ◌<◌}
 use native.Mathlib.Omega.{arith}
 use native.Mathlib.Nat.{pow-suc, one-le-pow, mul-le-mul_left, mul-le-mul_right, le_trans}
@@ -25,26 +26,26 @@ is_or_not c = small_digit (leb 48 c) (leb c 57) c refl refl
 back : (d : ℕ) → 48 + d - 48 ≡ d
 back d = omega arith
 
-value_of : (d : ℕ) (t : List ℕ) → d ≤ 9 → digit_value ((48 + d) ∷ t) ≡ d
+value_of : (d : ℕ) (t : List ℕ) → d ≤ 9 → digit_value ((48 + d) ∷ t) ≡ Some d
 value_of d t h = rw (digit_true d h, back d)
 
-not_ten : (c d : ℕ) (t : List ℕ) → c ≡ 48 + d → d ≤ 9 → digit_value (c ∷ t) ≡ 10 → ⊥
-not_ten c d t e h q = omega (arith, rw e at q, value_of d t h)
-
 -- no digit at the front
-no_digit : (c : ℕ) (t : List ℕ) → digit_value (c ∷ t) ≡ 10 → is_digit c ≡ false
-no_digit c t q = ⊎_elim {C = is_digit c ≡ false} (λ w. absurd (not_ten c w.0 t w.1 w.2 q)) (λ e. e) (is_or_not c)
+no_digit : (c : ℕ) (t : List ℕ) → digit_value (c ∷ t) ≡ None → is_digit c ≡ false
+no_digit c t q = ⊎_elim {C = is_digit c ≡ false}
+    (λ w. let z : Some w.0 ≡ None = sym (value_of w.0 t w.2) ∙ (rw w.1 at q) in cc)
+    (λ e. e)
+    (is_or_not c)
 
-pub digits_stop : (k v : ℕ) (t : List ℕ) → digit_value t ≡ 10 → digits k v t ≡ found v t
+pub digits_stop : (k v : ℕ) (t : List ℕ) → digit_value t ≡ None → digits k v t ≡ found v t
 digits_stop zero v t q = refl
 digits_stop (suc k) v [] q = refl
 digits_stop (suc k) v (c ∷ t) q = rw (no_digit c t q)
 
-pub no_number : (t : List ℕ) → digit_value t ≡ 10 → number t ≡ malformed
+pub no_number : (t : List ℕ) → digit_value t ≡ None → number t ≡ malformed
 no_number [] q = refl
 no_number (c ∷ t) q =
     let e : is_digit c ≡ false = no_digit c t q in
-    let n : c ≡ 48 → ⊥ = λ p. not_ten c 0 t p (omega arith) q in
+    let n : c ≡ 48 → ⊥ = λ p. (let z : is_digit 48 ≡ false = rw p at e in let y : ◌≡◌ {A = ℕ} 0 1 = cc in omega arith) in
     rw (ne_eqb c 48 n, e)
 
 -- a digit at the front
@@ -60,21 +61,22 @@ pub record Digit (s : List ℕ) (at d : ℕ) : Type 0 where
   pub small : d ≤ 9
   pub stands : drop at s ≡ (48 + d) ∷ drop (at + 1) s
 
-module _ (s : List ℕ) (at d : ℕ) (e : d ≡ digit_value (drop at s)) (n : d ≡ 10 → ⊥) where
+module _ (s : List ℕ) (at d : ℕ) (e : Some d ≡ digit_value (drop at s)) where
   is_digit_at : at < length s → Digit s at d
   is_digit_at h =
       let f : drop at s ≡ get_or s at 0 ∷ drop (at + 1) s = front s at h in
       ⊎_elim {C = Digit s at d}
       (λ w.
       let g : drop at s ≡ (48 + w.0) ∷ drop (at + 1) s = f ∙ ap (λ (c : ℕ). c ∷ drop (at + 1) s) w.1 in
-      let q : d ≡ w.0 = e ∙ ap digit_value g ∙ value_of w.0 (drop (at + 1) s) w.2 in
+      let k : Some d ≡ Some w.0 = e ∙ ap digit_value g ∙ value_of w.0 (drop (at + 1) s) w.2 in
+      let q : d ≡ w.0 = cc in
       record { below = h; small = omega (arith, w.2); stands = rw q g })
-      (λ o. absurd (n (e ∙ ap digit_value f ∙ ap (λ (y : Bool). cond y (get_or s at 0 - 48) 10) o)))
+      (λ o. let z : Some d ≡ None = e ∙ ap digit_value f ∙ ap (λ (y : Bool). cond y (Some (get_or s at 0 - 48)) None) o in cc)
       (is_or_not (get_or s at 0))
 
   digit_or_past : (b : Bool) → ltb at (length s) ≡ b → Digit s at d
   digit_or_past true h = is_digit_at (ltb-true at (length s) h)
-  digit_or_past false h = absurd (n (e ∙ rw (past s at (ltb-false at (length s) h))))
+  digit_or_past false h = let z : Some d ≡ None = e ∙ rw (past s at (ltb-false at (length s) h)) in cc
 
   pub digit_at : Digit s at d
   digit_at = digit_or_past (ltb at (length s)) refl
@@ -115,7 +117,7 @@ module _ (s : List ℕ) (at : ℕ) where
       let e : l ≡ suc (l - 1) = omega arith in
       more_suc v next (l - 1) d (rw e at r) h
 
-  pub stopped : (v next l : ℕ) → Reading s at v next l → digit_value (drop next s) ≡ 10 → Stands number s at v next
+  pub stopped : (v next l : ℕ) → Reading s at v next l → digit_value (drop next s) ≡ None → Stands number s at v next
   stopped v next l r e = record { reads = r.same ∙ digits_stop l v (drop next s) e; after = r.after; within = r.within }
 
   pub ended : (v next l : ℕ) → Reading s at v next l → l ≤ 0 → Stands number s at v next

@@ -2,7 +2,6 @@ pub mod Positions
 pub mod Names
 pub mod Order
 pub mod Readings
-pub mod Headers
 pub mod Digits
 pub mod Walk
 pub mod Numbered

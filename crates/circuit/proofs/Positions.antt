@@ -1,13 +1,13 @@
 -- What stands at a position of a text, as the definitions see it. Assumes nothing.
-use mathlib.Core.Bool.{Bool, true, false, ◌&&◌, cond}
+use mathlib.Core.Bool.{Bool, true, false, cond}
 use mathlib.Core.List.{List, [], ◌∷◌, ◌++◌}
 use Rattle.std.specs.Prelude.{None, Some}
 use mathlib.Core.Path.{◌≡◌, refl, sym, ◌∙◌, ap}
-use Prim.Native.Nat.{ℕ, ◌+◌, ◌-◌, ◌≤◌, ◌<◌}
+use Prim.Native.Nat.{ℕ, ◌+◌, ◌≤◌, ◌<◌}
 use native.Mathlib.Omega.{arith}
 use native.Mathlib.Numerals.{add-one}
-use borrow.Author.Tests.{lt-leb, le-leb, eqb-true, eq-eqb, ne_eqb}
-use lib.Dec.{eqb, leb}
+use borrow.Author.Tests.{le-leb, eqb-true, eq-eqb}
+use lib.Dec.{eqb}
 use lib.ListN.{length, get_or, drop, drop_of_length-le}
 use lib.Seq.{drop-cons}
 use Rattle.circuit.specs.Lines.{strip, is_digit}
@@ -23,37 +23,15 @@ module _ (s : List ℕ) (at : ℕ) where
 pub strip_same : (s : List ℕ) (at b : ℕ) → at < length s → get_or s at 0 ≡ b → strip (b ∷ []) (drop at s) ≡ Some (drop (at + 1) s)
 strip_same s at b h e = rw (front s at h, e, eq-eqb b b refl)
 
-pub strip_other : (s : List ℕ) (at b : ℕ) → at < length s → (get_or s at 0 ≡ b → ⊥) → strip (b ∷ []) (drop at s) ≡ None
-strip_other s at b h e = rw (front s at h, ne_eqb b (get_or s at 0) (λ q. e (sym q)))
-
-pub strip_past : (s : List ℕ) (at b : ℕ) → length s ≤ at → strip (b ∷ []) (drop at s) ≡ None
-strip_past s at b h = rw (past s at h)
-
 -- the byte of a digit
 pub digit_true : (d : ℕ) → d ≤ 9 → is_digit (48 + d) ≡ true
 digit_true d h = rw (le-leb 48 (48 + d) (omega arith), le-leb (48 + d) 57 (omega arith))
 
-pub low_byte : (c : ℕ) → c < 48 → is_digit c ≡ false
-low_byte c h = rw (lt-leb 48 c h)
-
-and_false : (b : Bool) → b && false ≡ false
-and_false true = refl
-and_false false = refl
-
-pub high_byte : (c : ℕ) → 57 < c → is_digit c ≡ false
-high_byte c h = rw (lt-leb c 57 h, and_false (leb 48 c))
-
 pub digit_byte : (c : ℕ) → 48 ≤ c → c ≤ 57 → is_digit c ≡ true
 digit_byte c l h = rw (le-leb 48 c l, le-leb c 57 h)
 
-pub digit_past : (s : List ℕ) (at : ℕ) → length s ≤ at → 10 ≡ digit_value (drop at s)
-digit_past s at h = rw (past s at h)
-
-pub digit_none : (s : List ℕ) (at : ℕ) → at < length s → is_digit (get_or s at 0) ≡ false → 10 ≡ digit_value (drop at s)
+pub digit_none : (s : List ℕ) (at : ℕ) → at < length s → is_digit (get_or s at 0) ≡ false → None ≡ digit_value (drop at s)
 digit_none s at h e = rw (front s at h, e)
-
-pub digit_some : (s : List ℕ) (at : ℕ) → at < length s → is_digit (get_or s at 0) ≡ true → get_or s at 0 - 48 ≡ digit_value (drop at s)
-digit_some s at h e = rw (front s at h, e)
 
 -- bytes that stand at the front
 strip_cons : (b c : ℕ) (bs s rest : List ℕ) (z : Bool) → eqb b c ≡ z → strip (b ∷ bs) (c ∷ s) ≡ Some rest → (b ≡ c) × (strip bs s ≡ Some rest)

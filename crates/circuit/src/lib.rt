@@ -2,100 +2,67 @@
 #![tactic(auto)]
 
 ghost use Rattle.std.specs.Prelude.{◌≡◌, [], ◌∷◌};
-ghost use Rattle.circuit.specs.Lines.{closed_by, end_byte};
+ghost use Rattle.circuit.specs.Lines.{closed_by, end_byte, op_line};
 ghost use Rattle.circuit.specs.Text.{header, all_below, apart, measures};
-ghost use Rattle.circuit.specs.Parts.Reading.{NumberAt, NameAt, ReadsAt, pair_line, LineAt};
+ghost use Rattle.circuit.specs.Parts.Reading.{ReadsAt, NameAt};
 
 use clifford::{After, Gate, One, Op, Two};
-use numbers::Number;
 
 pub mod numbers;
 
-// An operation with the position behind its line.
-#[derive(Drop)]
-pub enum Line {
-    Op(Op, usize),
-    Malformed,
-}
-
-// The name of an operation; that of a measurement with the position behind it.
-#[derive(Drop)]
+// The name of an operation.
+#[derive(Clone, Copy)]
 enum Word {
     One(One),
     Two(Two),
-    Measure(After, usize),
-    Nothing,
+    Measure(After),
 }
 
-fn name_at(s: &[u8], at: usize) -> Word
+// The name that stands here, with the position behind it.
+fn name_at(s: &[u8], at: usize) -> Option<(Word, usize)>
     ensures { NameAt s.now at result }
 {
-    if s.len() <= at {
-        return Word::Nothing;
-    }
-    let c = s[at];
-    match c {
-        72 => Word::One(One::H),
-        83 => Word::One(One::S),
-        88 => Word::One(One::PauliX),
-        89 => Word::One(One::PauliY),
-        90 => Word::One(One::PauliZ),
-        77 => {
-            if numbers::byte_at(s, at + 1, 82) {
-                return Word::Measure(After::Reset, at + 2);
-            }
-            Word::Measure(After::Keep, at + 1)
-        }
-        67 => {
-            if numbers::byte_at(s, at + 1, 88) {
-                return Word::Two(Two::Cx);
-            }
-            if numbers::byte_at(s, at + 1, 90) {
-                return Word::Two(Two::Cz);
-            }
-            Word::Nothing
-        }
-        _ => Word::Nothing,
+    match s.get(at)? {
+        b'H' => Some((Word::One(One::H), at + 1)),
+        b'S' => Some((Word::One(One::S), at + 1)),
+        b'X' => Some((Word::One(One::PauliX), at + 1)),
+        b'Y' => Some((Word::One(One::PauliY), at + 1)),
+        b'Z' => Some((Word::One(One::PauliZ), at + 1)),
+        b'C' => match s.get(at + 1)? {
+            b'X' => Some((Word::Two(Two::Cx), at + 2)),
+            b'Z' => Some((Word::Two(Two::Cz), at + 2)),
+            _ => None,
+        },
+        b'M' if numbers::byte_at(s, at + 1, b'R') => Some((Word::Measure(After::Reset), at + 2)),
+        b'M' => Some((Word::Measure(After::Keep), at + 1)),
+        _ => None,
     }
 }
 
-// The operation, if its line ends here.
-fn closed_at(s: &[u8], at: usize, op: Op) -> Line
-    ensures { ReadsAt (closed_by (end_byte ∷ []) op) s.now at result }
+// The value with the position behind its line, if the line ends here.
+fn closed_at<T: Drop>(s: &[u8], at: usize, value: T) -> Option<(T, usize)>
+    ensures { ReadsAt (closed_by (end_byte ∷ []) value) s.now at result }
 {
-    if numbers::byte_at(s, at, 10) {
-        Line::Op(op, at + 1)
+    if numbers::byte_at(s, at, b'\n') {
+        Some((value, at + 1))
     } else {
-        Line::Malformed
+        None
     }
 }
 
-fn pair_at(s: &[u8], at: usize, gate: Two) -> Line
-    ensures { ReadsAt (pair_line gate) s.now at result }
+// The operation of the line that stands here, with the position behind the line.
+pub fn line_at(s: &[u8], at: usize) -> Option<(Op, usize)>
+    ensures { ReadsAt op_line s.now at result }
 {
-    match numbers::qubit_at(s, at) {
-        Number::Is(a, next) => match numbers::qubit_at(s, next) {
-            Number::Is(b, last) => closed_at(s, last, Op::Gate(Gate::Two(gate, a, b))),
-            Number::Malformed => Line::Malformed,
-        },
-        Number::Malformed => Line::Malformed,
-    }
-}
-
-pub fn line_at(s: &[u8], at: usize) -> Line
-    ensures { LineAt s.now at result }
-{
-    match name_at(s, at) {
-        Word::One(gate) => match numbers::qubit_at(s, at + 1) {
-            Number::Is(a, next) => closed_at(s, next, Op::Gate(Gate::One(gate, a))),
-            Number::Malformed => Line::Malformed,
-        },
-        Word::Two(gate) => pair_at(s, at + 2, gate),
-        Word::Measure(after, behind) => match numbers::qubit_at(s, behind) {
-            Number::Is(a, next) => closed_at(s, next, Op::Measure(after, a)),
-            Number::Malformed => Line::Malformed,
-        },
-        Word::Nothing => Line::Malformed,
+    let (word, behind) = name_at(s, at)?;
+    let (a, next) = numbers::qubit_at(s, behind)?;
+    match word {
+        Word::One(gate) => closed_at(s, next, Op::Gate(Gate::One(gate, a))),
+        Word::Two(gate) => {
+            let (b, last) = numbers::qubit_at(s, next)?;
+            closed_at(s, last, Op::Gate(Gate::Two(gate, a, b)))
+        }
+        Word::Measure(after) => closed_at(s, next, Op::Measure(after, a)),
     }
 }
 
@@ -103,11 +70,8 @@ pub fn qubits_below(n: usize, op: Op) -> bool
     ensures { result ≡ all_below n op }
 {
     match op {
-        Op::Gate(gate) => match gate {
-            Gate::One(_, a) => a < n,
-            Gate::Two(_, a, b) => (a < n) & (b < n),
-        },
-        Op::Measure(_, a) => a < n,
+        Op::Gate(Gate::Two(_, a, b)) => a < n && b < n,
+        Op::Gate(Gate::One(_, a)) | Op::Measure(_, a) => a < n,
     }
 }
 
@@ -115,38 +79,24 @@ pub fn qubits_apart(op: Op) -> bool
     ensures { result ≡ apart op }
 {
     match op {
-        Op::Gate(gate) => match gate {
-            Gate::One(_, _) => true,
-            Gate::Two(_, a, b) => a != b,
-        },
-        Op::Measure(_, _) => true,
+        Op::Gate(Gate::Two(_, a, b)) => a != b,
+        Op::Gate(Gate::One(_, _)) | Op::Measure(_, _) => true,
     }
 }
 
 pub fn one_if_measure(op: Op) -> usize
     ensures { result ≡ measures op }
 {
-    match op {
-        Op::Gate(_) => 0,
-        Op::Measure(_, _) => 1,
-    }
+    usize::from(matches!(op, Op::Measure(_, _)))
 }
 
 // Line 1: n, with the position behind the line.
-pub fn header_at(s: &[u8]) -> Number
-    ensures { NumberAt header s.now 0 result }
+pub fn header_at(s: &[u8]) -> Option<(usize, usize)>
+    ensures { ReadsAt header s.now 0 result }
 {
-    if !numbers::byte_at(s, 0, 81) {
-        return Number::Malformed;
+    if !numbers::byte_at(s, 0, b'Q') {
+        return None;
     }
-    match numbers::qubit_at(s, 1) {
-        Number::Is(n, next) => {
-            if numbers::byte_at(s, next, 10) {
-                Number::Is(n, next + 1)
-            } else {
-                Number::Malformed
-            }
-        }
-        Number::Malformed => Number::Malformed,
-    }
+    let (n, next) = numbers::qubit_at(s, 1)?;
+    closed_at(s, next, n)
 }
