@@ -1,5 +1,5 @@
 -- The pass over the operation lines: each line is refused or passed, and what was counted so far is the start of the whole count. Assumes nothing.
-use mathlib.Core.Bool.{Bool, true, false, ◌&&◌}
+use mathlib.Core.Bool.{true, false}
 use mathlib.Core.List.{List, ◌∷◌}
 use mathlib.Core.Path.{◌≡◌, refl, sym, ◌∙◌, ap}
 use Prim.Native.Nat.{ℕ, suc, ◌+◌, ◌-◌, ◌≤◌, ◌<◌}
@@ -9,30 +9,11 @@ use Rattle.limits.specs.Limits.{most_operations}
 use Rattle.answers.specs.Verdict.{Verdict, accepted, refused, then}
 use Rattle.clifford.specs.declared.Op.{Op}
 use Rattle.circuit.specs.Lines.{Found, found, malformed, op_line}
-use Rattle.circuit.specs.Text.{all_below, apart, checked, ends, operations, measures, count_measured}
-use Rattle.circuit.specs.Parts.Reading.{Stands}
-use Rattle.checking.specs.Parts.Promises.{line_verdict, Passes, Counts, added}
+use Rattle.circuit.specs.Text.{checked, ends, operations, measures, count_measured}
+use Rattle.checking.specs.declared.Counts.{Counts}
+use Rattle.checking.specs.Parts.Promises.{line_verdict, Passes, added}
 use Rattle.circuit.proofs.Positions.{front, past}
 use Rattle.circuit.proofs.Walk.{measures_one, after_line, operations_suc, operations_zero, operations_end}
-
-module _ (s : List ℕ) (at n line : ℕ) where
-  pub refused_four : (op : Op) (next : ℕ) → Stands op_line s at op next → all_below n op ≡ false → line_verdict n line (op_line (drop at s)) ≡ refused 4 line
-  refused_four op next r e = rw (r.reads, e)
-
-  pub refused_five :
-      (op : Op) (next : ℕ) → Stands op_line s at op next → all_below n op ≡ true → apart op ≡ false → line_verdict n line (op_line (drop at s)) ≡ refused 5 line
-  refused_five op next r e d = rw (r.reads, e, d)
-
-  pub refused_three : op_line (drop at s) ≡ malformed → line_verdict n line (op_line (drop at s)) ≡ refused 3 line
-  refused_three e = rw e
-
-  pub passes :
-      (op : Op) (next m : ℕ) → Stands op_line s at op next → all_below n op ≡ true → apart op ≡ true → m ≡ measures op → Passes s at n line next m
-  passes op next m r e d q = record { op = op; stands = r; allowed = rw (e, d); measured_is = q }
-
-pub then_apart_not : (below apart : Bool) → below ≡ true → below && apart ≡ false → apart ≡ false
-then_apart_not true apart e h = h
-then_apart_not false apart e h = cc
 
 ends_not : (s : List ℕ) (at : ℕ) → at < length s → ends (drop at s) ≡ false
 ends_not s at h = rw (front s at h)
@@ -71,9 +52,6 @@ pub record Counting (n : ℕ) (s : List ℕ) (whole : Verdict Counts) (at count 
   pub same : then (operations n (most_operations - count) (count + 2) (drop at s)) (λ ops. accepted (added count measured ops)) ≡ whole
   pub enough : count ≤ most_operations
   pub few : measured ≤ count
-
-pub passes_small : {s : List ℕ} {at n line next m : ℕ} → Passes s at n line next m → m ≤ 1
-passes_small w = omega (arith, w.measured_is, measures_one w.op)
 
 module _ (n : ℕ) (s : List ℕ) (whole : Verdict Counts) (at count measured : ℕ) (k : Counting n s whole at count measured) where
   room : count < most_operations → most_operations - count ≡ suc (most_operations - (count + 1))

@@ -2,9 +2,9 @@
 use mathlib.Core.Bool.{◌&&◌}
 use mathlib.Core.List.{List}
 use mathlib.Core.Path.{◌≡◌, refl, sym, ◌∙◌, ap}
-use Prim.Native.Nat.{ℕ, ◌≤◌, ◌<◌}
+use Prim.Native.Nat.{ℕ, ◌≤◌}
 use native.Mathlib.Omega.{arith}
-use borrow.Author.Tests.{le-leb, lt-leb, leb-true}
+use borrow.Author.Tests.{le-leb, leb-true}
 use lib.Dec.{leb}
 use lib.ListN.{length, drop}
 use Rattle.limits.specs.Limits.{most_qubits, most_operations}
@@ -15,24 +15,20 @@ use Rattle.clifford.specs.Run.{AllValid}
 use Rattle.circuit.specs.Lines.{Found, found, malformed}
 use Rattle.circuit.specs.Text.{Circuit, operations, header, meaning}
 use Rattle.circuit.specs.Parts.Reading.{Stands}
-use Rattle.checking.specs.Parts.Promises.{Counts, added, Accepts}
-use Rattle.checking.specs.Check.{check_of}
+use Rattle.checking.specs.declared.Counts.{Counts}
+use Rattle.checking.specs.Parts.Promises.{added, Accepts}
 use Rattle.circuit.proofs.Walk.{and_left, and_right, within_room, all_valid}
 
 -- a text with its line 1 read
-abbrev told : ℕ → List Op → Verdict Circuit
-told n ops = accepted (record { qubits = n; ops = ops })
+abbrev circuit_of : ℕ → List Op → Verdict Circuit
+circuit_of n ops = accepted (record { qubits = n; ops = ops })
 
 meant : Found ℕ → Verdict Circuit
 meant r =
     elim r [
-      | found n rest ↦ unless (leb 1 n && leb n most_qubits) 2 1 (then (operations n most_operations 2 rest) (told n))
+      | found n rest ↦ unless (leb 1 n && leb n most_qubits) 2 1 (then (operations n most_operations 2 rest) (circuit_of n))
       | malformed ↦ refused 1 1
     ]
-
-pub not_qubits : (s : List ℕ) → header s ≡ malformed → meaning s ≡ refused 1 1
-unfolding meant
-not_qubits s h = ap meant h
 
 pub meaning_read :
     (s rest : List ℕ) (n : ℕ)
@@ -41,18 +37,10 @@ unfolding meant
 meaning_read s rest n h l m = ap meant h ∙ rw (le-leb 1 n l, le-leb n most_qubits m)
 
 module _ (s : List ℕ) (n body : ℕ) (h : Stands header s 0 n body) where
-  pub none_of_them : n < 1 → meaning s ≡ refused 2 1
-  unfolding meant
-  none_of_them l = ap meant h.reads ∙ rw (lt-leb 1 n l)
-
-  pub too_many_of_them : 1 ≤ n → most_qubits < n → meaning s ≡ refused 2 1
-  unfolding meant
-  too_many_of_them l m = ap meant h.reads ∙ rw (le-leb 1 n l, lt-leb n most_qubits m)
-
-  meaning_lines : 1 ≤ n → n ≤ most_qubits → meaning s ≡ then (operations n most_operations 2 (drop body s)) (told n)
+  meaning_lines : 1 ≤ n → n ≤ most_qubits → meaning s ≡ then (operations n most_operations 2 (drop body s)) (circuit_of n)
   meaning_lines l m = meaning_read s (drop body s) n h.reads l m
 
-  refused_lines : (v : Verdict (List Op)) (a p : ℕ) → refused a p ≡ then v (λ ops. accepted (added 0 0 ops)) → then v (told n) ≡ refused a p
+  refused_lines : (v : Verdict (List Op)) (a p : ℕ) → refused a p ≡ then v (λ ops. accepted (added 0 0 ops)) → then v (circuit_of n) ≡ refused a p
   refused_lines (accepted ops) a p e = cc
   refused_lines (refused b q) a p e =
       let x : b ≡ a = cc in
@@ -73,7 +61,7 @@ module _ (s : List ℕ) (n body : ℕ) (h : Stands header s 0 n body) where
       let r : added 0 0 w.value ≡ record { operations = count; measured = measured } = cc in
       record {
         circuit = record { qubits = n; ops = w.value };
-        meant = meaning_lines l m ∙ ap (λ (v : Verdict (List Op)). then v (told n)) w.first;
+        meant = meaning_lines l m ∙ ap (λ (v : Verdict (List Op)). then v (circuit_of n)) w.first;
         qubits_is = refl;
         operations_is = omega (arith, ap (λ (x : Counts). x.operations) r);
         measured_is = omega (arith, ap (λ (x : Counts). x.measured) r);
@@ -95,10 +83,10 @@ pub record Parts (s : List ℕ) (c : Circuit) : Type 0 where
 read_parts : (s : List ℕ) (c : Circuit) (r : Found ℕ) → header s ≡ r → meaning s ≡ accepted c → Parts s c
 unfolding meant
 read_parts s c (found n rest) e a =
-    let v : Verdict Circuit = then (operations n most_operations 2 rest) (told n) in
+    let v : Verdict Circuit = then (operations n most_operations 2 rest) (circuit_of n) in
     let q : unless (leb 1 n && leb n most_qubits) 2 1 v ≡ accepted c = sym (ap meant e) ∙ a in
     let b = unless_passed (leb 1 n && leb n most_qubits) 2 1 v c q in
-    let w = then_accepted (operations n most_operations 2 rest) (told n) c b.1 in
+    let w = then_accepted (operations n most_operations 2 rest) (circuit_of n) c b.1 in
     let k : ◌≡◌ {A = Circuit} (record { qubits = n; ops = w.value }) c = (let z = w.later in cc) in
     let m : n ≡ c.qubits = ap (λ (d : Circuit). d.qubits) k in
     let o : w.value ≡ c.ops = ap (λ (d : Circuit). d.ops) k in
@@ -118,12 +106,3 @@ read_parts s c malformed e a =
 
 pub parts : (s : List ℕ) (c : Circuit) → meaning s ≡ accepted c → Parts s c
 parts s c a = read_parts s c (header s) refl a
-
--- the check
-pub check_accepted : (s : List ℕ) (n count measured body : ℕ) → Accepts s n count measured body → accepted (record { qubits = n; operations = count }) ≡ check_of s
-check_accepted s n count measured body a =
-    (λ i. accepted (record { qubits = a.qubits_is i; operations = a.operations_is i }))
-    ∙ sym (ap (λ (v : Verdict Circuit). then v (λ c. accepted (record { qubits = c.qubits; operations = length c.ops }))) a.meant)
-
-pub check_refused : (s : List ℕ) (a p : ℕ) → meaning s ≡ refused a p → refused a p ≡ check_of s
-check_refused s a p e = sym (ap (λ (v : Verdict Circuit). then v (λ c. accepted (record { qubits = c.qubits; operations = length c.ops }))) e)

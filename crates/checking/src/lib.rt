@@ -4,156 +4,139 @@
 ghost use Rattle.std.specs.Prelude.{◌≡◌, ◌+◌, ◌-◌, ◌≤◌, length, drop};
 ghost use Rattle.limits.specs.Limits.{most_qubits, most_operations};
 ghost use Rattle.answers.specs.Verdict.{accepted, then};
+ghost use Rattle.answers.specs.Refusals.{told};
 ghost use Rattle.circuit.specs.Text.{operations};
-ghost use Rattle.checking.specs.Parts.Promises.{added, TurnAt, told_lines, Heads, Scans};
-ghost use Rattle.checking.specs.Check.{told_check, check_of};
+ghost use Rattle.checking.specs.Parts.Promises.{added, TurnAt, Heads, Scans};
+ghost use Rattle.checking.specs.Check.{check_of};
 
 use answers::Refusal;
-use circuit::Line;
-use circuit::numbers::Number;
 
-// The position behind a line, and 1 if it measures; or why it is refused.
-#[derive(Drop)]
-enum Turn {
-    Next(usize, usize),
-    Refused(Refusal),
+// What a check answers: the number of qubits, and how many operations.
+#[derive(Clone, Copy, Debug, PartialEq, Eq)]
+pub struct Size {
+    pub qubits: usize,
+    pub operations: usize,
 }
 
 // How many operations, and how many of them measurements.
-#[derive(Drop)]
-pub enum Counted {
-    Lines(usize, usize),
-    Refused(Refusal),
+#[derive(Clone, Copy, Debug, PartialEq, Eq)]
+pub struct Counts {
+    pub operations: usize,
+    pub measured: usize,
 }
 
-// A circuit's operation lines begin at body.
-#[derive(Drop)]
-pub enum Scanned {
-    Circuit {
-        qubits: usize,
-        operations: usize,
-        measured: usize,
-        body: usize,
-    },
-    Refused(Refusal),
+// Line 1: the number of qubits, and where the operation lines begin.
+#[derive(Clone, Copy, Debug, PartialEq, Eq)]
+pub struct Heading {
+    pub qubits: usize,
+    pub body: usize,
 }
 
-#[derive(Drop)]
-pub enum Checked {
-    Circuit { qubits: usize, operations: usize },
-    Refused(Refusal),
+// A circuit's size and its measurements; its operation lines begin at body.
+#[derive(Clone, Copy, Debug, PartialEq, Eq)]
+pub struct Scanned {
+    pub qubits: usize,
+    pub operations: usize,
+    pub measured: usize,
+    pub body: usize,
 }
 
-fn judged_at(s: &[u8], at: usize, n: usize, line: usize) -> Turn
+// The position behind a line, and 1 if it measures.
+#[derive(Clone, Copy)]
+struct Turn {
+    next: usize,
+    measured: usize,
+}
+
+fn judged_at(s: &[u8], at: usize, n: usize, line: usize) -> Result<Turn, Refusal>
     ensures { TurnAt s.now at n line result }
 {
-    match circuit::line_at(s, at) {
-        Line::Op(op, next) => {
-            let below = circuit::qubits_below(n, op);
-            let apart = circuit::qubits_apart(op);
-            if below & apart {
-                return Turn::Next(next, circuit::one_if_measure(op));
-            }
-            if below {
-                return Turn::Refused(Refusal::QubitTwice(line));
-            }
-            Turn::Refused(Refusal::NoSuchQubit(line))
-        }
-        Line::Malformed => Turn::Refused(Refusal::Malformed(line)),
+    let (op, next) = circuit::line_at(s, at).ok_or(Refusal::Malformed(line))?;
+    if !circuit::qubits_below(n, op) {
+        return Err(Refusal::NoSuchQubit(line));
     }
+    if !circuit::qubits_apart(op) {
+        return Err(Refusal::QubitTwice(line));
+    }
+    Ok(Turn {
+        next,
+        measured: circuit::one_if_measure(op),
+    })
 }
 
-fn turn_at(s: &[u8], at: usize, n: usize, line: usize) -> Turn
+fn turn_at(s: &[u8], at: usize, n: usize, line: usize) -> Result<Turn, Refusal>
     requires { (n ≤ most_qubits) × (at ≤ length s.now) }
     ensures { TurnAt s.now at n line result }
 {
     let found = quick_lines::usual::line_at(s, at, n);
     if 0 < found {
-        return Turn::Next(
-            at + quick_lines::code::length(found),
-            quick_lines::code::one_if_measure(found),
-        );
+        return Ok(Turn {
+            next: at + quick_lines::code::length(found),
+            measured: quick_lines::code::one_if_measure(found),
+        });
     }
     judged_at(s, at, n, line)
 }
 
 // The lines from a position on, behind so many operations and measurements: how many there are with these, or why a line is refused.
-pub fn scan_lines(s: &[u8], from: usize, n: usize, done: usize, seen: usize) -> Counted
+pub fn scan_lines(
+    s: &[u8],
+    from: usize,
+    n: usize,
+    done: usize,
+    seen: usize,
+) -> Result<Counts, Refusal>
     requires { (n ≤ most_qubits) × (done ≤ most_operations) × (seen ≤ done) }
-    ensures { told_lines result ≡ then (operations n (most_operations - done) (done + 2) (drop from s.now)) (λ ops. accepted (added done seen ops)) }
+    ensures { told result ≡ then (operations n (most_operations - done) (done + 2) (drop from s.now)) (λ ops. accepted (added done seen ops)) }
 {
     let mut at = from;
-    let mut count = done;
+    let mut operations = done;
     let mut measured = seen;
     while at < s.len() {
-        if count == limits::MOST_OPERATIONS {
-            return Counted::Refused(Refusal::TooManyOperations);
+        if operations == limits::MOST_OPERATIONS {
+            return Err(Refusal::TooManyOperations);
         }
-        match turn_at(s, at, n, count + 2) {
-            Turn::Next(next, one) => {
-                at = next;
-                count += 1;
-                measured += one;
-            }
-            Turn::Refused(r) => {
-                return Counted::Refused(r);
-            }
-        }
+        let turn = turn_at(s, at, n, operations + 2)?;
+        at = turn.next;
+        operations += 1;
+        measured += turn.measured;
     }
-    Counted::Lines(count, measured)
+    Ok(Counts {
+        operations,
+        measured,
+    })
 }
 
-// Line 1: the number of qubits, and where the operation lines begin; or why the text is refused.
-#[derive(Drop)]
-pub enum Heading {
-    Qubits(usize, usize),
-    Refused(Refusal),
-}
-
-pub fn head(text: &[u8]) -> Heading
+// Line 1, or why the text is refused.
+pub fn head(text: &[u8]) -> Result<Heading, Refusal>
     ensures { Heads text.now result }
 {
-    match circuit::header_at(text) {
-        Number::Is(n, body) => {
-            if n < 1 {
-                return Heading::Refused(Refusal::QubitCount);
-            }
-            if limits::MOST_QUBITS < n {
-                return Heading::Refused(Refusal::QubitCount);
-            }
-            Heading::Qubits(n, body)
-        }
-        Number::Malformed => Heading::Refused(Refusal::NotQubits),
+    let (qubits, body) = circuit::header_at(text).ok_or(Refusal::NotQubits)?;
+    if qubits < 1 || limits::MOST_QUBITS < qubits {
+        return Err(Refusal::QubitCount);
     }
+    Ok(Heading { qubits, body })
 }
 
-pub fn scan(text: &[u8]) -> Scanned
+pub fn scan(text: &[u8]) -> Result<Scanned, Refusal>
     ensures { Scans text.now result }
 {
-    match head(text) {
-        Heading::Qubits(n, body) => match scan_lines(text, body, n, 0, 0) {
-            Counted::Lines(count, measured) => Scanned::Circuit {
-                qubits: n,
-                operations: count,
-                measured,
-                body,
-            },
-            Counted::Refused(r) => Scanned::Refused(r),
-        },
-        Heading::Refused(r) => Scanned::Refused(r),
-    }
+    let line = head(text)?;
+    let lines = scan_lines(text, line.body, line.qubits, 0, 0)?;
+    Ok(Scanned {
+        qubits: line.qubits,
+        operations: lines.operations,
+        measured: lines.measured,
+        body: line.body,
+    })
 }
 
-pub fn check(text: &[u8]) -> Checked
-    ensures { told_check result ≡ check_of text.now }
+pub fn check(text: &[u8]) -> Result<Size, Refusal>
+    ensures { told result ≡ check_of text.now }
 {
-    match scan(text) {
-        Scanned::Circuit {
-            qubits,
-            operations,
-            measured: _,
-            body: _,
-        } => Checked::Circuit { qubits, operations },
-        Scanned::Refused(r) => Checked::Refused(r),
-    }
+    let scanned = scan(text)?;
+    Ok(Size {
+        qubits: scanned.qubits,
+        operations: scanned.operations,
+    })
 }

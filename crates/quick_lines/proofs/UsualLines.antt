@@ -1,6 +1,7 @@
 -- A line of the usual kind, put together from its bytes. Assumes nothing.
 use mathlib.Core.Bool.{Bool, true, false, ◌&&◌, cond}
 use mathlib.Core.List.{List, ◌∷◌}
+use Rattle.std.specs.Prelude.{Some}
 use mathlib.Core.Path.{◌≡◌, refl, sym, ◌∙◌, ap, subst}
 use Prim.Native.Nat.{ℕ, ◌+◌, ◌-◌, ◌*◌, ◌%◌, ◌≤◌, ◌<◌}
 use native.Mathlib.Decide.{dec_lt}
@@ -9,7 +10,6 @@ use borrow.Author.Tests.{leb-true, eq-eqb, ne_eqb}
 use lib.Dec.{eqb, leb}
 use lib.ListN.{length, get_or, drop}
 use Rattle.clifford.specs.declared.Op.{Op}
-use Rattle.circuit.specs.declared.Line.TheVariants as line
 use Rattle.circuit.specs.Lines.{space, is_digit, number, with_one, with_two, names, qubit, operands, named, op_line}
 use Rattle.circuit.specs.Text.{all_below, apart}
 use Rattle.circuit.specs.Parts.Reading.{qubits, Stands, Has, Spelled}
@@ -160,7 +160,7 @@ module _ (s : List ℕ) (at n : ℕ) (h : at + 11 ≤ length s) where
       let w = digits_at s behind 10 in
       let last = behind + 1 + w in
       let r : Stands op_line s at (op a) (last + 1) =
-      one_line s at op behind a last (line.Op (op a) (last + 1)) sp q.stands (closed s last (op a) (ends_at last (omega (arith, digits_few s behind 10)) q.stops))
+      one_line s at op behind a last (Some (op a, last + 1)) sp q.stands (closed s last (op a) (ends_at last (omega (arith, digits_few s behind 10)) q.stops))
       in
       let z : at + length_in code ≡ last + 1 = omega (arith, k) in
       record { stands = rw (o, z) r; below = rw o b; parted = rw o d }

@@ -4,7 +4,6 @@ ghost use Rattle.limits.specs.Limits.{most_qubits};
 ghost use Rattle.circuit.specs.Text.{all_below};
 ghost use Rattle.quick_lines.specs.Parts.Coded.{op_in, length_in, OpAt};
 
-use circuit::Line;
 use clifford::{After, Gate, Op, Two};
 
 fn of(op: Op, length: usize) -> usize
@@ -13,7 +12,7 @@ fn of(op: Op, length: usize) -> usize
 {
     match op {
         Op::Gate(gate) => match gate {
-            Gate::One(k, a) => crate::code::pack(clifford::letter(k) as usize, a, 0, length),
+            Gate::One(k, a) => crate::code::pack(usize::from(u8::from(k)), a, 0, length),
             Gate::Two(k, a, b) => match k {
                 Two::Cx => crate::code::pack(1, a, b, length),
                 Two::Cz => crate::code::pack(2, a, b, length),
@@ -31,7 +30,7 @@ pub fn line_at(s: &[u8], at: usize, n: usize) -> usize
     ensures { OpAt s.now at n result }
 {
     match circuit::line_at(s, at) {
-        Line::Op(op, next) => {
+        Some((op, next)) => {
             let below = circuit::qubits_below(n, op);
             let apart = circuit::qubits_apart(op);
             if below & apart {
@@ -39,6 +38,6 @@ pub fn line_at(s: &[u8], at: usize, n: usize) -> usize
             }
             0
         }
-        Line::Malformed => 0,
+        None => 0,
     }
 }

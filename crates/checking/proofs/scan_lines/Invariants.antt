@@ -9,7 +9,7 @@ use Rattle.checking.proofs.scan_lines.Given as goal
 
 abbrev pub invariant-loop-at : goal.invariant-loop-at
 invariant-loop-at l =
-    Counting l.n l.s (then (operations l.n (most_operations - l.done) (l.done + 2) (drop l.from l.s)) (λ ops. accepted (added l.done l.seen ops))) l.at l.count l.measured
+    Counting l.n l.s (then (operations l.n (most_operations - l.done) (l.done + 2) (drop l.from l.s)) (λ ops. accepted (added l.done l.seen ops))) l.at l.operations l.measured
 
 abbrev pub decreases-loop-at : goal.decreases-loop-at
 decreases-loop-at l = length l.s - l.at

@@ -1,17 +1,14 @@
 -- What the parts of a pass over a whole text promise one another: one line, the number of lines, line 1. Assumes nothing.
-use Rattle.std.specs.Prelude.{List, ◌≡◌, ℕ, ◌+◌, ◌≤◌, length, drop}
+use Rattle.std.specs.Prelude.{List, ◌≡◌, ℕ, ◌+◌, ◌≤◌, length, drop, Result, Ok, Err}
 use Rattle.limits.specs.Limits.{most_qubits, most_operations}
 use Rattle.answers.specs.Verdict.{Verdict, accepted, refused}
+use Rattle.answers.specs.declared.Refusal.{Refusal}
 use Rattle.answers.specs.Refusals.{number_of, place_of}
 use Rattle.clifford.specs.declared.Op.{Op}
-use Rattle.checking.specs.declared.Turn.{Turn}
-use Rattle.checking.specs.declared.Turn.TheVariants as turn
-use Rattle.checking.specs.declared.Counted.{Counted}
-use Rattle.checking.specs.declared.Counted.TheVariants as counted
+use Rattle.checking.specs.declared.Counts.{Counts}
 use Rattle.checking.specs.declared.Heading.{Heading}
-use Rattle.checking.specs.declared.Heading.TheVariants as heading
 use Rattle.checking.specs.declared.Scanned.{Scanned}
-use Rattle.checking.specs.declared.Scanned.TheVariants as scanned
+use Rattle.checking.specs.declared.Turn.{Turn}
 use Rattle.circuit.specs.Lines.{Found, found, malformed, op_line}
 use Rattle.circuit.specs.Text.{Circuit, checked, operations, header, meaning, measures, count_measured}
 use Rattle.circuit.specs.Parts.Reading.{Stands}
@@ -28,22 +25,13 @@ pub record Passes (s : List ℕ) (at n line next measured : ℕ) : Type 0 where
   pub allowed : checked n line op ≡ accepted op
   pub measured_is : measured ≡ measures op
 
-abbrev pub TurnAt : List ℕ → ℕ → ℕ → ℕ → Turn → Type 0
-TurnAt s at n line (turn.Next next measured) = Passes s at n line next measured
-TurnAt s at n line (turn.Refused r) = line_verdict n line (op_line (drop at s)) ≡ refused (number_of r) (place_of r)
-
--- how many operations, and how many of them measurements
-pub record Counts : Type 0 where
-  pub operations : ℕ
-  pub measured : ℕ
+abbrev pub TurnAt : List ℕ → ℕ → ℕ → ℕ → Result Turn Refusal → Type 0
+TurnAt s at n line (Ok t) = Passes s at n line t.next t.measured
+TurnAt s at n line (Err r) = line_verdict n line (op_line (drop at s)) ≡ refused (number_of r) (place_of r)
 
 -- the counts of these operations, with so many before them
 abbrev pub added : ℕ → ℕ → List Op → Counts
 added count measured ops = record { operations = count + length ops; measured = measured + count_measured ops }
-
-abbrev pub told_lines : Counted → Verdict Counts
-told_lines (counted.Lines operations measured) = accepted (record { operations = operations; measured = measured })
-told_lines (counted.Refused r) = refused (number_of r) (place_of r)
 
 -- line 1 is read, and its number of qubits is allowed
 pub record Headed (s : List ℕ) (n body : ℕ) : Type 0 where
@@ -51,9 +39,9 @@ pub record Headed (s : List ℕ) (n body : ℕ) : Type 0 where
   pub some_qubits : 1 ≤ n
   pub few_qubits : n ≤ most_qubits
 
-abbrev pub Heads : List ℕ → Heading → Type 0
-Heads s (heading.Qubits n body) = Headed s n body
-Heads s (heading.Refused r) = meaning s ≡ refused (number_of r) (place_of r)
+abbrev pub Heads : List ℕ → Result Heading Refusal → Type 0
+Heads s (Ok h) = Headed s h.qubits h.body
+Heads s (Err r) = meaning s ≡ refused (number_of r) (place_of r)
 
 -- the text means this circuit, and its operation lines begin at body
 pub record Accepts (s : List ℕ) (n count measured body : ℕ) : Type 0 where
@@ -66,6 +54,6 @@ pub record Accepts (s : List ℕ) (n count measured body : ℕ) : Type 0 where
   pub within : body ≤ length s
   pub lines : operations n most_operations 2 (drop body s) ≡ accepted circuit.ops
 
-abbrev pub Scans : List ℕ → Scanned → Type 0
-Scans s (scanned.Circuit n count measured body) = Accepts s n count measured body
-Scans s (scanned.Refused r) = meaning s ≡ refused (number_of r) (place_of r)
+abbrev pub Scans : List ℕ → Result Scanned Refusal → Type 0
+Scans s (Ok c) = Accepts s c.qubits c.operations c.measured c.body
+Scans s (Err r) = meaning s ≡ refused (number_of r) (place_of r)
