@@ -1,4 +1,4 @@
-pub mod Storing
+pub mod Short
 pub mod Written
 pub mod Numerals
 pub mod Recovered

@@ -9,8 +9,8 @@ use borrow.Author.Tests.{eqb-true, eqb-false}
 use lib.Dec.{eqb}
 use Rattle.circuit.specs.Lines.{found, malformed, digits, number}
 use Rattle.circuit.proofs.Digits.{is_or_not, no_number, digits_more, number_starts}
-use Rattle.circuit_writer.specs.Writing.{short_decimal}
-use Rattle.circuit_writer.proofs.Storing.{decimal_one, decimal_two, decimal_three}
+use Rattle.lines.specs.Decimal.{decimal}
+use Rattle.circuit_writer.proofs.Short.{decimal_one, decimal_two, decimal_three}
 
 -- digits are read to their end, or one more is read
 pub record Stopped (v : ℕ) (t : List ℕ) (x : ℕ) (rest : List ℕ) : Type 0 where
@@ -39,7 +39,7 @@ step k v (c ∷ t) x rest e =
 
 -- a number and what stands behind it
 pub record Numeral (s : List ℕ) (v : ℕ) (rest : List ℕ) : Type 0 where
-  pub text : s ≡ short_decimal v ++ rest
+  pub text : s ≡ decimal v ++ rest
   pub small : v < 1000
 
 one_digit : (d : ℕ) (t : List ℕ) (x : ℕ) (rest : List ℕ) → d ≤ 9 → Stopped d t x rest → Numeral ((48 + d) ∷ t) x rest
@@ -58,7 +58,7 @@ three_digits d e f x rest h n k l v =
     let p : x / 100 ≡ d = omega arith in
     let q : x / 10 % 10 ≡ e = omega arith in
     let r : x % 10 ≡ f = omega arith in
-    record { text = rw (decimal_three x (omega arith), p, q, r); small = omega arith }
+    record { text = rw (decimal_three x (omega arith) (omega arith), p, q, r); small = omega arith }
 
 from_digit : (d : ℕ) (t : List ℕ) (x : ℕ) (rest : List ℕ) → d ≤ 9 → (d ≡ 0 → ⊥) → digits 2 d t ≡ found x rest → Numeral ((48 + d) ∷ t) x rest
 from_digit d t x rest h n e =

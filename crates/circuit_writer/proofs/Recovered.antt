@@ -22,8 +22,9 @@ use Rattle.circuit.proofs.Names.{or_else, spaced_qubits}
 use Rattle.circuit.proofs.Readings.{closing, spacing}
 use Rattle.circuit.proofs.Walk.{ends_or_not, next_line, no_more}
 use Rattle.checking.proofs.Meant.{parts}
-use Rattle.circuit_writer.specs.Writing.{short_decimal, name_text, qubit_text, qubits_text, line_text, header_text, lines_text, circuit_text}
-use Rattle.circuit_writer.specs.Parts.Storing.{Small}
+use Rattle.lines.specs.Decimal.{decimal}
+use Rattle.circuit_writer.specs.Writing.{name_text, qubit_text, qubits_text, line_text, header_text, lines_text, circuit_text}
+use Rattle.circuit_writer.specs.Parts.Small.{Small}
 use Rattle.circuit_writer.proofs.Numerals.{same_found, number_read}
 
 -- a reading that goes on has gone well before
@@ -191,7 +192,7 @@ header_if s n rest (Some u) q e =
     let w = before (number u) (closed_by (10 ∷ [])) n rest e in
     let z = closed_read w.value w.behind n rest w.later in
     let y = number_read u n (10 ∷ rest) (w.first ∙ (λ i. found (sym z.same i) (z.text i))) in
-    stripped (81 ∷ 32 ∷ []) s u q ∙ ap (λ (l : List ℕ). 81 ∷ 32 ∷ l) (y.text ∙ sym (append_assoc (short_decimal n) (10 ∷ []) rest))
+    stripped (81 ∷ 32 ∷ []) s u q ∙ ap (λ (l : List ℕ). 81 ∷ 32 ∷ l) (y.text ∙ sym (append_assoc (decimal n) (10 ∷ []) rest))
 header_if s n rest None q e = absurd (let k : ◌≡◌ {A = ℕ} 0 1 = cc in omega arith)
 
 pub header_read : (s : List ℕ) (n : ℕ) (rest : List ℕ) → header s ≡ found n rest → s ≡ header_text n ++ rest

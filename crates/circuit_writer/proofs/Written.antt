@@ -24,9 +24,10 @@ use Rattle.circuit.proofs.Digits.{digits_more, number_starts}
 use Rattle.checking.proofs.Meant.{meaning_read}
 use Rattle.circuit.proofs.Walk.{after_line, operations_suc, operations_end}
 use Rattle.clifford.specs.Named.{one_letter}
-use Rattle.circuit_writer.specs.Writing.{short_decimal, two_letter, qubit_text, line_text, header_text, lines_text, circuit_text}
-use Rattle.circuit_writer.specs.Parts.Storing.{Small}
-use Rattle.circuit_writer.proofs.Storing.{decimal_one, decimal_two, decimal_three}
+use Rattle.lines.specs.Decimal.{decimal}
+use Rattle.circuit_writer.specs.Writing.{two_letter, qubit_text, line_text, header_text, lines_text, circuit_text}
+use Rattle.circuit_writer.specs.Parts.Small.{Small}
+use Rattle.circuit_writer.proofs.Short.{decimal_one, decimal_two, decimal_three}
 
 -- a number, up to a byte that is no digit
 module _ (c : ℕ) (rest : List ℕ) (e : is_digit c ≡ false) where
@@ -54,7 +55,7 @@ module _ (c : ℕ) (rest : List ℕ) (e : is_digit c ≡ false) where
       ∙ digits_more 0 (10 * (v / 100) + v / 10 % 10) (v % 10) (c ∷ rest) (omega arith)
       ∙ ap (λ (k : ℕ). found k (c ∷ rest)) q
 
-  by_size : (v : ℕ) (a b : Bool) → ltb v 10 ≡ a → ltb v 100 ≡ b → v < 1000 → number (short_decimal v ++ c ∷ rest) ≡ found v (c ∷ rest)
+  by_size : (v : ℕ) (a b : Bool) → ltb v 10 ≡ a → ltb v 100 ≡ b → v < 1000 → number (decimal v ++ c ∷ rest) ≡ found v (c ∷ rest)
   by_size v true b p q h =
       let s : v < 10 = ltb-true v 10 p in
       ap (λ (t : List ℕ). number (t ++ c ∷ rest)) (decimal_one v s) ∙ one_digit v (eqb v 0) refl (omega arith)
@@ -64,9 +65,9 @@ module _ (c : ℕ) (rest : List ℕ) (e : is_digit c ≡ false) where
       ap (λ (t : List ℕ). number (t ++ c ∷ rest)) (decimal_two v s r) ∙ two_digits v s r
   by_size v false false p q h =
       let r : 100 ≤ v = ltb-false v 100 q in
-      ap (λ (t : List ℕ). number (t ++ c ∷ rest)) (decimal_three v r) ∙ three_digits v r h
+      ap (λ (t : List ℕ). number (t ++ c ∷ rest)) (decimal_three v r h) ∙ three_digits v r h
 
-  pub number_written : (v : ℕ) → v < 1000 → number (short_decimal v ++ c ∷ rest) ≡ found v (c ∷ rest)
+  pub number_written : (v : ℕ) → v < 1000 → number (decimal v ++ c ∷ rest) ≡ found v (c ∷ rest)
   number_written v h = by_size v (ltb v 10) (ltb v 100) refl refl h
 
 -- a line
@@ -81,27 +82,27 @@ two_name : (g : Two) (t : List ℕ) → named names (67 ∷ two_letter g ∷ 32 
 two_name Cx t = refl
 two_name Cz t = refl
 
-one_shape : (a : ℕ) (rest : List ℕ) → (qubit_text a ++ 10 ∷ []) ++ rest ≡ 32 ∷ (short_decimal a ++ 10 ∷ rest)
+one_shape : (a : ℕ) (rest : List ℕ) → (qubit_text a ++ 10 ∷ []) ++ rest ≡ 32 ∷ (decimal a ++ 10 ∷ rest)
 one_shape a rest = simp append_assoc
 
-two_shape : (a b : ℕ) (rest : List ℕ) → ((qubit_text a ++ qubit_text b) ++ 10 ∷ []) ++ rest ≡ 32 ∷ (short_decimal a ++ 32 ∷ (short_decimal b ++ 10 ∷ rest))
+two_shape : (a b : ℕ) (rest : List ℕ) → ((qubit_text a ++ qubit_text b) ++ 10 ∷ []) ++ rest ≡ 32 ∷ (decimal a ++ 32 ∷ (decimal b ++ 10 ∷ rest))
 two_shape a b rest = simp append_assoc
 
-one_read : (f : ℕ → Op) (a : ℕ) (s rest : List ℕ) → a < 1000 → named names s ≡ operands (with_one f) (short_decimal a ++ 10 ∷ rest) → op_line s ≡ found (f a) rest
+one_read : (f : ℕ → Op) (a : ℕ) (s rest : List ℕ) → a < 1000 → named names s ≡ operands (with_one f) (decimal a ++ 10 ∷ rest) → op_line s ≡ found (f a) rest
 one_read f a s rest h n = rw (n, number_written 10 rest refl a h)
 
 two_read :
     (f : ℕ → ℕ → Op) (a b : ℕ) (s rest : List ℕ)
-    → a < 1000 → b < 1000 → named names s ≡ operands (with_two f) (short_decimal a ++ 32 ∷ (short_decimal b ++ 10 ∷ rest)) → op_line s ≡ found (f a b) rest
-two_read f a b s rest h k n = rw (n, number_written 32 (short_decimal b ++ 10 ∷ rest) refl a h, number_written 10 rest refl b k)
+    → a < 1000 → b < 1000 → named names s ≡ operands (with_two f) (decimal a ++ 32 ∷ (decimal b ++ 10 ∷ rest)) → op_line s ≡ found (f a b) rest
+two_read f a b s rest h k n = rw (n, number_written 32 (decimal b ++ 10 ∷ rest) refl a h, number_written 10 rest refl b k)
 
 pub line_written : (op : Op) (rest : List ℕ) → Small op → op_line (line_text op ++ rest) ≡ found op rest
 line_written (apply (one g a)) rest h =
     one_read (λ k. apply (one g k)) a (line_text (apply (one g a)) ++ rest) rest h
-    (ap (λ (t : List ℕ). named names (one_letter g ∷ t)) (one_shape a rest) ∙ one_name g (short_decimal a ++ 10 ∷ rest))
+    (ap (λ (t : List ℕ). named names (one_letter g ∷ t)) (one_shape a rest) ∙ one_name g (decimal a ++ 10 ∷ rest))
 line_written (apply (two g a b)) rest h =
     two_read (λ k l. apply (two g k l)) a b (line_text (apply (two g a b)) ++ rest) rest h.0 h.1
-    (ap (λ (t : List ℕ). named names (67 ∷ two_letter g ∷ t)) (two_shape a b rest) ∙ two_name g (short_decimal a ++ 32 ∷ (short_decimal b ++ 10 ∷ rest)))
+    (ap (λ (t : List ℕ). named names (67 ∷ two_letter g ∷ t)) (two_shape a b rest) ∙ two_name g (decimal a ++ 32 ∷ (decimal b ++ 10 ∷ rest)))
 line_written (measure Keep a) rest h =
     one_read (measure Keep) a (line_text (measure Keep a) ++ rest) rest h (ap (λ (t : List ℕ). named names (77 ∷ t)) (one_shape a rest))
 line_written (measure Reset a) rest h =

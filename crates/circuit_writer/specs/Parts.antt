@@ -1,1 +1,1 @@
-pub mod Storing
+pub mod Small

@@ -1,5 +1,5 @@
 -- The text of a circuit. Document 01, "The circuit text". Assumes nothing.
-use Rattle.std.specs.Prelude.{cond, List, [], ◌∷◌, ◌++◌, ℕ, ◌+◌, ◌/◌, ◌%◌, ltb}
+use Rattle.std.specs.Prelude.{List, [], ◌∷◌, ◌++◌, ℕ}
 use Rattle.clifford.specs.declared.Two.{Two}
 use Rattle.clifford.specs.declared.Two.TheVariants.{Cx, Cz}
 use Rattle.clifford.specs.declared.Gate.TheVariants.{One as one, Two as two}
@@ -9,13 +9,7 @@ use Rattle.clifford.specs.declared.Op.TheVariants.{Gate as apply, Measure as mea
 use Rattle.clifford.specs.Named.{one_letter}
 use Rattle.circuit.specs.Lines.{space, end_byte}
 use Rattle.circuit.specs.Text.{Circuit}
-
--- the decimal digits of a number below 1000, without a leading zero
-unfoldable pub short_decimal : ℕ → List ℕ
-short_decimal v =
-    cond (ltb v 10) ((48 + v) ∷ [])
-    (cond (ltb v 100) ((48 + v / 10) ∷ (48 + v % 10) ∷ [])
-    ((48 + v / 100) ∷ (48 + v / 10 % 10) ∷ (48 + v % 10) ∷ []))
+use Rattle.lines.specs.Decimal.{decimal}
 
 -- the letter after C
 abbrev pub two_letter : Two → ℕ
@@ -29,7 +23,7 @@ name_text (measure Keep a) = 77 ∷ []
 name_text (measure Reset a) = 77 ∷ 82 ∷ []
 
 abbrev pub qubit_text : ℕ → List ℕ
-qubit_text a = space ∷ short_decimal a
+qubit_text a = space ∷ decimal a
 
 abbrev pub qubits_text : Op → List ℕ
 qubits_text (apply (one g a)) = qubit_text a

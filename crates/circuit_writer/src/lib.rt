@@ -1,111 +1,66 @@
-// Writes circuit texts into a lent buffer, line by line.
+// Writes circuit texts, line by line.
 #![tactic(auto)]
 
-ghost use Rattle.std.specs.Prelude.{◌≡◌, ◌+◌, ◌≤◌, ◌<◌, length};
-ghost use Rattle.circuit_writer.specs.Writing.{short_decimal, two_letter, name_text, qubit_text, qubits_text, line_text, header_text};
-ghost use Rattle.circuit_writer.specs.Parts.Storing.{Small, Stores, Puts};
+ghost use Rattle.std.specs.Prelude.{◌+◌, ◌<◌, ◌^◌, ◌≤◌};
+ghost use Rattle.circuit_writer.specs.Writing.{name_text, qubit_text, qubits_text, line_text, header_text};
+ghost use Rattle.lines.specs.Parts.Putting.{Puts};
 
 use clifford::{After, Gate, Op, Two};
+use lines::Lines;
 
-fn put_number(out: &mut [u8], at: usize, v: usize) -> usize
-    requires { (v < 1000) × (at + length (short_decimal v) ≤ length out.old) }
-    ensures { Stores (short_decimal v) out.old at out.new result }
+fn put_qubit(lines: &mut Lines, qubit: usize)
+    requires { lines.old.at + 21 < 2 ^ 64 }
+    ensures puts { Puts (qubit_text qubit) lines.old lines.new }
+    ensures few { lines.new.at ≤ lines.old.at + 21 }
 {
-    if v < 10 {
-        out[at] = (48 + v) as u8;
-        return at + 1;
-    }
-    if v < 100 {
-        out[at] = (48 + v / 10) as u8;
-        out[at + 1] = (48 + v % 10) as u8;
-        return at + 2;
-    }
-    out[at] = (48 + v / 100) as u8;
-    out[at + 1] = (48 + v / 10 % 10) as u8;
-    out[at + 2] = (48 + v % 10) as u8;
-    at + 3
+    lines.byte(b' ');
+    lines.number(qubit);
 }
 
-fn put_qubit(out: &mut [u8], at: usize, v: usize) -> usize
-    requires { (v < 1000) × (at + length (qubit_text v) ≤ length out.old) }
-    ensures { Stores (qubit_text v) out.old at out.new result }
-{
-    out[at] = 32;
-    put_number(out, at + 1, v)
-}
-
-fn second_letter(gate: Two) -> u8
-    ensures { result ≡ two_letter gate }
-{
-    match gate {
-        Two::Cx => 88,
-        Two::Cz => 90,
-    }
-}
-
-fn put_name(out: &mut [u8], at: usize, op: Op) -> usize
-    requires { at + length (name_text op) ≤ length out.old }
-    ensures { Stores (name_text op) out.old at out.new result }
+fn put_name(lines: &mut Lines, op: Op)
+    requires { lines.old.at + 2 < 2 ^ 64 }
+    ensures puts { Puts (name_text op) lines.old lines.new }
+    ensures few { lines.new.at ≤ lines.old.at + 2 }
 {
     match op {
-        Op::Gate(gate) => match gate {
-            Gate::One(g, _) => {
-                out[at] = clifford::letter(g);
-                at + 1
-            }
-            Gate::Two(g, _, _) => {
-                out[at] = 67;
-                out[at + 1] = second_letter(g);
-                at + 2
-            }
-        },
-        Op::Measure(after, _) => {
-            out[at] = 77;
-            match after {
-                After::Keep => at + 1,
-                After::Reset => {
-                    out[at + 1] = 82;
-                    at + 2
-                }
-            }
+        Op::Gate(Gate::One(gate, _)) => lines.byte(u8::from(gate)),
+        Op::Gate(Gate::Two(Two::Cx, _, _)) => lines.text(b"CX"),
+        Op::Gate(Gate::Two(Two::Cz, _, _)) => lines.text(b"CZ"),
+        Op::Measure(After::Keep, _) => lines.text(b"M"),
+        Op::Measure(After::Reset, _) => lines.text(b"MR"),
+    }
+}
+
+fn put_qubits(lines: &mut Lines, op: Op)
+    requires { lines.old.at + 42 < 2 ^ 64 }
+    ensures puts { Puts (qubits_text op) lines.old lines.new }
+    ensures few { lines.new.at ≤ lines.old.at + 42 }
+{
+    match op {
+        Op::Gate(Gate::One(_, a)) | Op::Measure(_, a) => put_qubit(lines, a),
+        Op::Gate(Gate::Two(_, a, b)) => {
+            put_qubit(lines, a);
+            put_qubit(lines, b);
         }
     }
 }
 
-fn put_qubits(out: &mut [u8], at: usize, op: Op) -> usize
-    requires { Small op × (at + length (qubits_text op) ≤ length out.old) }
-    ensures { Stores (qubits_text op) out.old at out.new result }
+// Puts the line of an operation.
+pub fn put_line(lines: &mut Lines, op: Op)
+    requires { lines.old.at + 45 < 2 ^ 64 }
+    ensures { Puts (line_text op) lines.old lines.new }
 {
-    match op {
-        Op::Gate(gate) => match gate {
-            Gate::One(_, a) => put_qubit(out, at, a),
-            Gate::Two(_, a, b) => {
-                let next = put_qubit(out, at, a);
-                put_qubit(out, next, b)
-            }
-        },
-        Op::Measure(_, a) => put_qubit(out, at, a),
-    }
+    put_name(lines, op);
+    put_qubits(lines, op);
+    lines.byte(b'\n');
 }
 
-// Writes the line at a position, and answers the position behind it.
-pub fn put_line(out: &mut [u8], at: usize, op: Op) -> usize
-    requires { Small op × (at + length (line_text op) ≤ length out.old) }
-    ensures { Puts (line_text op) out.old at out.new result }
+// Puts line 1.
+pub fn put_header(lines: &mut Lines, qubits: usize)
+    requires { lines.old.at + 23 < 2 ^ 64 }
+    ensures { Puts (header_text qubits) lines.old lines.new }
 {
-    let next = put_name(out, at, op);
-    let last = put_qubits(out, next, op);
-    out[last] = 10;
-    last + 1
-}
-
-// Writes line 1, and answers the position behind it.
-pub fn put_header(out: &mut [u8], n: usize) -> usize
-    requires { (n < 1000) × (length (header_text n) ≤ length out.old) }
-    ensures { Puts (header_text n) out.old 0 out.new result }
-{
-    out[0] = 81;
-    let last = put_qubit(out, 1, n);
-    out[last] = 10;
-    last + 1
+    lines.byte(b'Q');
+    put_qubit(lines, qubits);
+    lines.byte(b'\n');
 }

@@ -1,16 +1,8 @@
 -- The printed lines: words with single spaces between them, closed by byte 10. Document 01, the program `shot`. Assumes nothing.
-use Rattle.std.specs.Prelude.{Bool, true, false, cond, List, [], ◌∷◌, ◌++◌, ℕ, zero, suc, ◌+◌, ◌/◌, ◌%◌, ltb}
+use Rattle.std.specs.Prelude.{Bool, true, false, List, [], ◌∷◌, ◌++◌, ℕ}
 use Rattle.circuit.specs.Lines.{space, end_byte}
+use Rattle.lines.specs.Decimal.{decimal}
 use Rattle.clifford.specs.declared.Outcome.{Outcome}
-
--- a number in decimal without leading zeros, if it has at most so many digits: the last digit behind those of a tenth of it
-unfoldable pub digits_of : ℕ → ℕ → List ℕ
-digits_of zero v = []
-digits_of (suc k) v = cond (ltb v 10) ((48 + v) ∷ []) (digits_of k (v / 10) ++ ((48 + v % 10) ∷ []))
-
--- no number of a machine word has more than 20 digits
-abbrev pub decimal : ℕ → List ℕ
-decimal v = digits_of 20 v
 
 -- a word, and more words, single spaces between, and the end byte
 abbrev pub spaced : List ℕ → List (List ℕ) → List ℕ

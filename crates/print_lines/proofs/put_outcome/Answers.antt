@@ -1,44 +1,16 @@
 -- `print_lines::put_outcome` meets its contract. Assumes nothing.
-use native.Mathlib.Omega.{arith}
-use Rattle.circuit_writer.proofs.Storing.{stored_then}
-use Rattle.print_lines.proofs.Digits.{digits_few}
-use Rattle.print_lines.proofs.Putting.{kind_few, value_one}
+use mathlib.Core.List.{[], ◌∷◌}
+use mathlib.Core.Path.{◌≡◌}
+use Rattle.lines.proofs.Putting.{puts_then, puts_as}
+use Rattle.print_lines.specs.Line.{kind_word, value_word}
 use Rattle.print_lines.proofs.put_outcome.Goals as goal
-
-pub put-second-requires : goal.put-second-requires
-put-second-requires c =
-    let e = c in
-    omega (arith, c.put_number-numbered.ensures.next_is, e.requires, digits_few 20 e.args.line)
-
-pub put_number-measured-requires : goal.put_number-measured-requires
-put_number-measured-requires c =
-    let e = c in
-    omega (arith, c.put_number-numbered.ensures.next_is, c.put-second.ensures.next_is, e.requires, digits_few 20 e.args.line)
-
-pub put-third-requires : goal.put-third-requires
-put-third-requires c =
-    let e = c in
-    omega (arith, c.put_number-numbered.ensures.next_is, c.put-second.ensures.next_is, c.put_number-measured.ensures.next_is, e.requires, digits_few 20 e.args.line, digits_few 20 e.args.qubit)
-
-pub put_kind-kind-requires : goal.put_kind-kind-requires
-put_kind-kind-requires c =
-    let e = c in
-    omega (arith, c.put_number-numbered.ensures.next_is, c.put-second.ensures.next_is, c.put_number-measured.ensures.next_is, c.put-third.ensures.next_is, e.requires, digits_few 20 e.args.line, digits_few 20 e.args.qubit)
-
-pub put-fourth-requires : goal.put-fourth-requires
-put-fourth-requires c =
-    let e = c in
-    omega (arith, c.put_number-numbered.ensures.next_is, c.put-second.ensures.next_is, c.put_number-measured.ensures.next_is, c.put-third.ensures.next_is, c.put_kind-kind.ensures.next_is, e.requires, digits_few 20 e.args.line, digits_few 20 e.args.qubit, kind_few e.args.random)
-
-pub put_value-last-requires : goal.put_value-last-requires
-put_value-last-requires c =
-    let e = c in
-    omega (arith, c.put_number-numbered.ensures.next_is, c.put-second.ensures.next_is, c.put_number-measured.ensures.next_is, c.put-third.ensures.next_is, c.put_kind-kind.ensures.next_is, c.put-fourth.ensures.next_is, e.requires, digits_few 20 e.args.line, digits_few 20 e.args.qubit, kind_few e.args.random)
-
-pub put-requires : goal.put-requires
-put-requires c =
-    let e = c in
-    omega (arith, c.put_number-numbered.ensures.next_is, c.put-second.ensures.next_is, c.put_number-measured.ensures.next_is, c.put-third.ensures.next_is, c.put_kind-kind.ensures.next_is, c.put-fourth.ensures.next_is, c.put_value-last.ensures.next_is, e.requires, digits_few 20 e.args.line, digits_few 20 e.args.qubit, kind_few e.args.random, value_one e.args.value)
+use Rattle.print_lines.proofs.put_outcome.Goals.{then-outcome, else-outcome, then-outcome-2, else-outcome-2}
 
 pub returns : goal.returns
-returns c = stored_then c.put_number-numbered.ensures (stored_then c.put-second.ensures (stored_then c.put_number-measured.ensures (stored_then c.put-third.ensures (stored_then c.put_kind-kind.ensures (stored_then c.put-fourth.ensures (stored_then c.put_value-last.ensures c.put.ensures))))))
+returns c =
+    let kind : kind_word c.args.outcome.random ≡ c.if-outcome.text.now =
+    elim c.if-outcome.branch [ then-outcome w ↦ rw w.if-outcome.true (cc) | else-outcome w ↦ rw w.if-outcome.false (cc) ] in
+    let value : value_word c.args.outcome.value ≡ c.if-outcome-2.byte ∷ [] =
+    elim c.if-outcome-2.branch [ then-outcome-2 w ↦ rw w.if-outcome-2.true (cc) | else-outcome-2 w ↦ rw w.if-outcome-2.false (cc) ] in
+    puts_then c.number.ensures.puts
+    (puts_then c.byte.ensures (puts_then c.number-2.ensures.puts (puts_then c.byte-2.ensures (puts_then (puts_as kind c.text.ensures) (puts_then c.byte-3.ensures (puts_then (puts_as value c.byte-4.ensures) c.byte-5.ensures))))))
