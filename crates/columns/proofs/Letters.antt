@@ -12,7 +12,7 @@ use lib.ListN.{get_or}
 use borrow.Author.Tests.{eqb-true, eqb-false}
 use Rattle.limits.specs.Limits.{most_qubits}
 use Rattle.words.specs.Bit.{bit}
-use Rattle.words.proofs.BitLaws.{bit-ones, bit-zero}
+use Rattle.words.proofs.BitLaws.{all_or_none}
 use Rattle.pauli.specs.Letters.{letter, ◌⊕◌}
 use Rattle.pauli.proofs.Cases.{tested, bit as bool, ltr}
 use Rattle.clifford.specs.declared.One.{One}
@@ -27,19 +27,9 @@ use Rattle.packing.proofs.Groups.{beside_signs}
 use Rattle.columns.proofs.Gates.{gated_by}
 use Rattle.columns.specs.Parts.Picked.{Shuffled, one_turns}
 
--- an index that is picked lies where both do
-pub picked_in : (r : ℕ) (on : Bool) (b c m : ℕ) → r ≡ cond on b c → b + 4 ≤ m → c + 4 ≤ m → r + 4 ≤ m
-picked_in r true b c m e h g = omega arith
-picked_in r false b c m e h g = omega arith
-
 picked : (w : List ℕ) (s r : ℕ) (on : Bool) (b c : ℕ) → r ≡ cond on b c → bit_at w r s ≡ cond on (bit_at w b s) (bit_at w c s)
 picked w s r true b c e = ap (λ (o : ℕ). bit_at w o s) e
 picked w s r false b c e = ap (λ (o : ℕ). bit_at w o s) e
-
--- all bits of a word, or none
-pub all_or_none : (y : ℕ) (on : Bool) (k : ℕ) → y ≡ cond on (2 ^ 64 - 1) 0 → bit (k % 64) y ≡ on
-all_or_none y true k e = ap (bit (k % 64)) e ∙ bit-ones 64 (k % 64) (mod-lt k (zero-lt-suc 63))
-all_or_none y false k e = ap (bit (k % 64)) e ∙ bit-zero (k % 64)
 
 -- the five letters, and any other byte, which is Z
 module _ (P : One → Bool → Bool → Bool → Bool → Type 0) (h : P H true false false false) (s : P S false true false false)
@@ -95,7 +85,7 @@ module _ {w w1 w2 : List ℕ} (c a : ℕ) (al : a < most_qubits) (pa pb y fx fz 
       (h.zs s l
       ∙ ap₂ (λ (p q : Bool). p ⊕ q)
       (picked w1 s fz (eqb c 72) (8 * a) (8 * a + 4) efz ∙ ap₂ (cond (eqb c 72)) (beside_signs t (8 * a) s l (omega arith)) (beside_signs t (8 * a + 4) s l (omega arith)))
-      (ap₂ ◌&&◌ (beside_signs t (8 * a) s l (omega arith)) (all_or_none added (eqb c 83) s ead)))
+      (ap₂ ◌&&◌ (beside_signs t (8 * a) s l (omega arith)) (all_or_none added (eqb c 83) (s % 64) (mod-lt s (zero-lt-suc 63)) ead)))
       ∙ renewed c (bit_at w (8 * a) s) (bit_at w (8 * a + 4) s)
 
   letters : (s j : ℕ) → s < row_count → j < most_qubits → letter_at w2 s j ≡ new (one (one_of c) a) (letter_at w s) j
@@ -114,7 +104,7 @@ module _ {w w1 w2 : List ℕ} (c a : ℕ) (al : a < most_qubits) (pa pb y fx fz 
       ∙ ap (λ (b : Bool). bit_at w sign_words s ⊕ b)
       (ap₂ (λ (p q : Bool). p ⊕ q)
       (ap₂ ◌&&◌ (picked w s pa (eqb c 88) (8 * a + 4) (8 * a) epa) (picked w s pb (eqb c 72 || eqb c 83 || eqb c 88) (8 * a + 4) (8 * a) epb))
-      (ap (λ (b : Bool). bit_at w (8 * a + 4) s && b) (all_or_none y (eqb c 89) s ey))
+      (ap (λ (b : Bool). bit_at w (8 * a + 4) s && b) (all_or_none y (eqb c 89) (s % 64) (mod-lt s (zero-lt-suc 63)) ey))
       ∙ turned c (bit_at w (8 * a) s) (bit_at w (8 * a + 4) s))
 
   pub one_gate : Gated (one (one_of c) a) w w2

@@ -11,18 +11,19 @@ ghost use Rattle.measure_random.specs.Parts.Settled.{Settled};
 
 use groups::Group;
 use packing::Words;
+use std::hint::select_unpredictable;
 
 // The row that `own` has, which is all I, becomes Z on a with the coin's sign.
 fn settle(w: &mut Words, a: usize, own: Group, coin: bool)
-    requires { Words w.old × (a < most_qubits) }
+    requires { a < most_qubits }
     ensures { Settled a (row_bit own) coin w.old w.new }
 {
     let zi = 8 * a + 4;
-    let z = groups::xor(groups::load(w, zi), own);
-    let minus = groups::and(own, groups::all(words::when(coin, u64::MAX)));
-    let signs = groups::xor(groups::load(w, packing::SIGNS), minus);
-    groups::store(w, zi, z);
-    groups::store(w, packing::SIGNS, signs);
+    let z = Group::load(w, zi) ^ own;
+    let minus = own & Group::all(select_unpredictable(coin, u64::MAX, 0));
+    let signs = Group::load(w, packing::SIGNS) ^ minus;
+    z.store(w, zi);
+    signs.store(w, packing::SIGNS);
 }
 
 // The random measurement of a at stabilizer p.
@@ -30,11 +31,11 @@ pub fn collapse(w: &mut Words, n: usize, a: usize, p: usize, coin: bool)
     requires { Holds n w.old × (n ≤ most_qubits) × (a < n) × (p < n) }
     ensures { Holds n w.new × (rows_of n w.new ≡ collapsed n a p coin (rows_of n w.old)) }
 {
-    let partner = groups::row(p);
-    let own = groups::row(limits::MOST_QUBITS + p);
-    let keep = groups::same(partner, own);
-    let x = groups::load(w, 8 * a);
-    let mask = groups::xor(groups::and(x, keep), partner);
+    let partner = Group::row(p);
+    let own = Group::row(limits::MOST_QUBITS + p);
+    let keep = !(partner ^ own);
+    let x = Group::load(w, 8 * a);
+    let mask = (x & keep) ^ partner;
     multiply_rows::multiply(w, n, p / 64, p % 64, keep, mask);
     settle(w, a, own, coin);
 }

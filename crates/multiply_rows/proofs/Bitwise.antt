@@ -5,8 +5,10 @@ use mathlib.Core.List.{[], ◌∷◌}
 use Prim.Native.Nat.{ℕ, ◌-◌, ◌*◌, ◌/◌, ◌%◌, ◌^◌, ◌<◌}
 use lib.Bits.{bit_and, bit_or, bit_xor}
 use lib.Dec.{eqb}
+use lib.Pow.{pow_pos}
+use native.Mathlib.Nat.{mod-lt}
 use Rattle.words.specs.Bit.{bit}
-use Rattle.words.proofs.BitLaws.{bit-xor, bit-or, bit-ones, bit-clear, bit-shl}
+use Rattle.words.proofs.BitLaws.{bit-not, bit-or, bit-clear, bit-shl}
 use Rattle.pauli.specs.Letters.{I, letter, ◌⊕◌, ◌·◌, power, ◌⊞◌}
 use Rattle.pauli.specs.Rows.{minus_sign}
 use Rattle.pauli.proofs.Cases.{tested, bit as bool, ltr, pow}
@@ -23,10 +25,10 @@ counts_law = tested (bool ∷ bool ∷ bool ∷ bool ∷ bool ∷ bool ∷ bool 
 
 -- the word but for bit p
 abbrev pub keep : ℕ → ℕ
-keep p = bit_xor (2 ^ 64 - 1) ((1 * 2 ^ p) % 2 ^ 64)
+keep p = 2 ^ 64 - 1 - (1 * 2 ^ p) % 2 ^ 64
 
 pub bit-keep : (i p : ℕ) → i < 64 → p < 64 → bit i (keep p) ≡ not (eqb i p)
-bit-keep i p il pl = bit-xor i (2 ^ 64 - 1) ((1 * 2 ^ p) % 2 ^ 64) ∙ ap₂ ◌⊕◌ (bit-ones 64 i il) (bit-shl i p pl)
+bit-keep i p il pl = bit-not 64 i _ il (mod-lt (1 * 2 ^ p) (pow_pos 64)) ∙ ap not (bit-shl i p pl)
 
 -- a letter that is kept where b does not hold
 pub kept_law : (x z b : Bool) → letter (x && not b) (z && not b) ≡ cond b I (letter x z)

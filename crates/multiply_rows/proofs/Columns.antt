@@ -28,27 +28,33 @@ lettered {j} l jl c d e = record {
 
 -- word g of both groups, but for what `own` has not
 module _ (w : List ℕ) (lw : Words w) (j : ℕ) (jl : j < most_qubits) (g : ℕ) (gl : g < 4) (own : ℕ) where
-  abbrev cut : ℕ → ℕ
-  cut o = bit_and (get_or w (o + g) 0) own
+  abbrev cut : List ℕ → ℕ → ℕ
+  cut v o = bit_and (get_or v (o + g) 0) own
 
   abbrev first : List ℕ
-  first = set w (8 * j + g) (cut (8 * j))
+  first = set w (8 * j + g) (cut w (8 * j))
 
-  c : Changed (8 * j) (λ s. cond (eqb (s / 64) g) (bit (s % 64) (cut (8 * j))) (bit_at w (8 * j) s)) w first
-  c = changed_one w lw (8 * j) (omega arith) g gl (cut (8 * j))
+  c : Changed (8 * j) (λ s. cond (eqb (s / 64) g) (bit (s % 64) (cut w (8 * j))) (bit_at w (8 * j) s)) w first
+  c = changed_one w lw (8 * j) (omega arith) g gl (cut w (8 * j))
 
-  d : Changed (8 * j + 4) (λ s. cond (eqb (s / 64) g) (bit (s % 64) (cut (8 * j + 4))) (bit_at first (8 * j + 4) s)) first (set first (8 * j + 4 + g) (cut (8 * j + 4)))
-  d = changed_one first c.words (8 * j + 4) (omega arith) g gl (cut (8 * j + 4))
+  d : Changed (8 * j + 4) (λ s. cond (eqb (s / 64) g) (bit (s % 64) (cut first (8 * j + 4))) (bit_at first (8 * j + 4) s)) first (set first (8 * j + 4 + g) (cut first (8 * j + 4)))
+  d = changed_one first c.words (8 * j + 4) (omega arith) g gl (cut first (8 * j + 4))
+
+  -- the z words before the cut
+  uncut : (s : ℕ) → s < row_count → bit_at first (8 * j + 4) s ≡ bit_at w (8 * j + 4) s
+  uncut s l = elsewhere c (8 * j + 4) s l (λ b. omega arith) (λ b. omega arith)
 
   -- a bit of the word that is cut
-  cut_bit : (o s : ℕ) → s / 64 ≡ g → bit (s % 64) (cut o) ≡ (bit_at w o s && bit (s % 64) own)
-  cut_bit o s e = bit-and (s % 64) (get_or w (o + g) 0) own ∙ ap (λ (t : ℕ). bit (s % 64) (get_or w (o + t) 0) && bit (s % 64) own) (sym e)
+  cut_bit : (v : List ℕ) (o s : ℕ) → s / 64 ≡ g → bit (s % 64) (cut v o) ≡ (bit_at v o s && bit (s % 64) own)
+  cut_bit v o s e = bit-and (s % 64) (get_or v (o + g) 0) own ∙ ap (λ (t : ℕ). bit (s % 64) (get_or v (o + t) 0) && bit (s % 64) own) (sym e)
 
-  pub erased_by : Lettered j (erased j g own w) w (set first (8 * j + 4 + g) (cut (8 * j + 4)))
+  pub erased_by : Lettered j (erased j g own w) w (set first (8 * j + 4 + g) (cut first (8 * j + 4)))
   erased_by = lettered (erased j g own w) jl c d (λ s l. go s l (eqb (s / 64) g) refl)
     where
       go : (s : ℕ) → s < row_count → (b : Bool) → eqb (s / 64) g ≡ b
-          → letter (cond b (bit (s % 64) (cut (8 * j))) (bit_at w (8 * j) s)) (cond b (bit (s % 64) (cut (8 * j + 4))) (bit_at first (8 * j + 4) s))
+          → letter (cond b (bit (s % 64) (cut w (8 * j))) (bit_at w (8 * j) s)) (cond b (bit (s % 64) (cut first (8 * j + 4))) (bit_at first (8 * j + 4) s))
           ≡ cond b (letter (bit_at w (8 * j) s && bit (s % 64) own) (bit_at w (8 * j + 4) s && bit (s % 64) own)) (letter_at w s j)
-      go s l true e = let k : s / 64 ≡ g = eqb-true (s / 64) g e in ap₂ letter (cut_bit (8 * j) s k) (cut_bit (8 * j + 4) s k)
-      go s l false e = ap (letter (bit_at w (8 * j) s)) (elsewhere c (8 * j + 4) s l (λ b. omega arith) (λ b. omega arith))
+      go s l true e =
+          let k : s / 64 ≡ g = eqb-true (s / 64) g e in
+          ap₂ letter (cut_bit w (8 * j) s k) (cut_bit first (8 * j + 4) s k ∙ ap (λ (b : Bool). b && bit (s % 64) own) (uncut s l))
+      go s l false e = ap (letter (bit_at w (8 * j) s)) (uncut s l)

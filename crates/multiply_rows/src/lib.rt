@@ -30,71 +30,64 @@ fn times(
     mask: Group,
     counts: Powers,
 ) -> Powers
-    requires { Words w.old × (j < most_qubits) }
+    requires { j < most_qubits }
     ensures { Timed j (row_bit px) (row_bit pz) (row_bit keep) (row_bit mask) counts result w.old w.new }
 {
     let xi = 8 * j;
     let zi = 8 * j + 4;
-    let x = groups::and(groups::load(w, xi), keep);
-    let z = groups::and(groups::load(w, zi), keep);
-    let nx = groups::xor(x, groups::and(px, mask));
-    let nz = groups::xor(z, groups::and(pz, mask));
-    let t = groups::and(x, pz);
-    let odd = groups::and(groups::xor(t, groups::and(z, px)), mask);
-    let carry = groups::xor(groups::xor(counts.lo, groups::xor(nx, nz)), t);
-    groups::store(w, xi, nx);
-    groups::store(w, zi, nz);
+    let x = Group::load(w, xi) & keep;
+    let z = Group::load(w, zi) & keep;
+    let nx = x ^ (px & mask);
+    let nz = z ^ (pz & mask);
+    let t = x & pz;
+    let odd = (t ^ (z & px)) & mask;
+    let carry = (counts.lo ^ (nx ^ nz)) ^ t;
+    nx.store(w, xi);
+    nz.store(w, zi);
     Powers {
-        hi: groups::xor(counts.hi, groups::and(odd, carry)),
-        lo: groups::xor(counts.lo, odd),
+        hi: counts.hi ^ (odd & carry),
+        lo: counts.lo ^ odd,
     }
 }
 
 // The letters of qubit j in word g, but those that `own` has not.
 fn erase(w: &mut Words, j: usize, g: usize, own: u64)
-    requires { Words w.old × (j < most_qubits) × (g < 4) }
+    requires { (j < most_qubits) × (g < 4) }
     ensures { Lettered j (erased j g own w.old) w.old w.new }
 {
-    let xi = 8 * j + g;
-    let zi = 8 * j + 4 + g;
-    let x = w[xi] & own;
-    let z = w[zi] & own;
-    w[xi] = x;
-    w[zi] = z;
+    w[8 * j + g] &= own;
+    w[8 * j + 4 + g] &= own;
 }
 
 // The signs of `keep`, turned under the mask where the count's high bit and `minus` differ.
 fn sign(w: &mut Words, hi: Group, minus: Group, keep: Group, mask: Group)
-    requires { Words w.old }
     ensures { Changed sign_words (λ s. (bit_at w.old sign_words s && row_bit keep s) ⊕ (row_bit mask s && (row_bit hi s ⊕ row_bit minus s))) w.old w.new }
 {
-    let kept = groups::and(groups::load(w, packing::SIGNS), keep);
-    let turned = groups::and(mask, groups::xor(hi, minus));
-    groups::store(w, packing::SIGNS, groups::xor(kept, turned));
+    let kept = Group::load(w, packing::SIGNS) & keep;
+    let turned = mask & (hi ^ minus);
+    (kept ^ turned).store(w, packing::SIGNS);
 }
 
 // Both rows of number p, which stand at bit q of the words g and 2 + g, are cleared, and then every row under the mask is multiplied by old stabilizer p. In a column where
 // that row has I nothing is multiplied, and its own word has nothing to clear.
 pub fn multiply(w: &mut Words, n: usize, g: usize, q: usize, keep: Group, mask: Group)
-    requires { Words w.old × (n ≤ most_qubits) × (g < 2) × (q < 64) × Keeps (64 * g + q) (row_bit keep) }
+    requires { (n ≤ most_qubits) × (g < 2) × (q < 64) × Keeps (64 * g + q) (row_bit keep) }
     ensures { Multiplied n (64 * g + q) (row_bit mask) (row_at n w.old (most_qubits + (64 * g + q))) w.old w.new }
 {
-    let own = u64::MAX ^ (1u64 << q);
-    let none = groups::all(0);
+    let own = !(1u64 << q);
+    let none = Group::all(0);
     let mut counts = Powers { hi: none, lo: none };
-    let mut j: usize = 0;
-    while j < n {
+    for j in 0..n {
         let x = w[8 * j + (2 + g)];
         let z = w[8 * j + 4 + (2 + g)];
         if ((x | z) >> q) & 1 == 1 {
-            let px = groups::all(words::splat(x, q));
-            let pz = groups::all(words::splat(z, q));
+            let px = Group::all(words::splat(x, q));
+            let pz = Group::all(words::splat(z, q));
             counts = times(w, j, px, pz, keep, mask, counts);
         } else {
             erase(w, j, g, own);
         }
-        j += 1;
     }
-    let minus = groups::all(words::splat(w[packing::SIGNS + (2 + g)], q));
+    let minus = Group::all(words::splat(w[packing::SIGNS + (2 + g)], q));
     sign(w, counts.hi, minus, keep, mask);
 }

@@ -1,6 +1,6 @@
 -- Laws of the bits of words: what each word operation does to bit k. Assumes nothing.
 use mathlib.Core.Path.{◌≡◌, refl, sym, ap, ◌∙◌}
-use mathlib.Core.Bool.{Bool, true, false, ◌&&◌, ◌||◌}
+use mathlib.Core.Bool.{Bool, true, false, not, cond, ◌&&◌, ◌||◌}
 use Prim.Native.Nat.{ℕ, zero, suc, ◌+◌, ◌-◌, ◌*◌, ◌/◌, ◌%◌, ◌^◌, ◌<◌}
 use native.Mathlib.Nat.{mod-lt, zero-lt-suc, div_self, zero-div, mod-eq_of_lt, div-eq_of_lt, mul-mod_left, pow-suc, one-mul, div-one, le_of_suc-le-suc}
 use native.Mathlib.Numerals.{one-add}
@@ -10,7 +10,7 @@ use native.Mathlib.Omega.{arith}
 use lib.Dec.{eqb}
 use borrow.Author.Tests.{eq-eqb, ne_eqb}
 use lib.Pow.{pow_pos, pow-lt, pow-add, shl-shr, shr-shr}
-use lib.Bits.{bit_and, bit_or, bit_xor, and_shr, or_shr, xor_shr, and_mod, or_mod, xor_mod, and_mask}
+use lib.Bits.{bit_and, bit_or, bit_xor, and_shr, or_shr, xor_shr, and_mod, or_mod, xor_mod, and_comm, and_mask, xor_add_and}
 use Rattle.words.specs.Bit.{bit}
 use Rattle.pauli.specs.Letters.{◌⊕◌}
 
@@ -62,6 +62,18 @@ right false false e = e
 -- a word of m ones has each bit below m
 pub bit-ones : (m k : ℕ) → k < m → bit k (2 ^ m - 1) ≡ true
 bit-ones m k h = right (bit k (2 ^ k)) _ (sym (bit-and k (2 ^ k) (2 ^ m - 1)) ∙ ap (bit k) (and_mask (2 ^ k) m ∙ mod-eq_of_lt (pow-lt h)) ∙ bit-own k)
+
+-- all bits of a word, or none
+pub all_or_none : (y : ℕ) (on : Bool) (k : ℕ) → k < 64 → y ≡ cond on (2 ^ 64 - 1) 0 → bit k y ≡ on
+all_or_none y true k h e = ap (bit k) e ∙ bit-ones 64 k h
+all_or_none y false k h e = ap (bit k) e ∙ bit-zero k
+
+-- the other bits of a word of m, as the code's `!w` has it
+pub bit-not : (m k w : ℕ) → k < m → w < 2 ^ m → bit k (2 ^ m - 1 - w) ≡ not (bit k w)
+bit-not m k w h l =
+    let e : bit_and (2 ^ m - 1) w ≡ w = and_comm (2 ^ m - 1) w ∙ and_mask w m ∙ mod-eq_of_lt l in
+    let d : 2 ^ m - 1 - w ≡ bit_xor (2 ^ m - 1) w = omega (arith, e, xor_add_and (2 ^ m - 1) w) in
+    ap (bit k) d ∙ bit-xor k (2 ^ m - 1) w ∙ ap (λ (b : Bool). b ⊕ bit k w) (bit-ones m k h)
 
 -- a test of bit j, as the code's `(w >> j) & 1 == 1` has it
 pub bit-clear : (j w : ℕ) → (bit_and (w / 2 ^ j) 1 ≡ 1 → ⊥) → bit j w ≡ false

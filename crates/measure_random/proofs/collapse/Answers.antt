@@ -23,10 +23,7 @@ multiply-requires c =
     let e = c in
     let b : e.args.p < most_qubits = omega (arith, e.requires.1, e.requires.3) in
     let same : e.args.p ≡ 64 * (e.args.p / 64) + e.args.p % 64 = omega arith in
-    (e.requires.0.words, e.requires.1, omega arith, omega arith, rw same at (kept e.args.p _ _ _ b c.row-partner.ensures c.row-own.ensures c.same-keep.ensures))
-
-pub settle-requires : goal.settle-requires
-settle-requires c = let e = c in (c.multiply.ensures.words, omega (arith, e.requires.1, e.requires.2))
+    (e.requires.1, omega arith, omega arith, rw same at (kept e.args.p _ _ _ b c.row-partner.ensures c.row-own.ensures (λ s l. c.not-keep.ensures s l ∙ ap not (c.bitxor.ensures s l))))
 
 pub returns : goal.returns
 returns c =
@@ -37,9 +34,9 @@ returns c =
     let w = e.args.w.now in
     let b : p < most_qubits = omega (arith, e.requires.1, e.requires.3) in
     let same : 64 * (p / 64) + p % 64 ≡ p = omega arith in
-    let k = kept p _ _ _ b c.row-partner.ensures c.row-own.ensures c.same-keep.ensures in
-    let mask : All (λ s. row_bit c.xor-mask.result s ≡ (bit_at w (8 * a) s && not (eqb (s % most_qubits) p)) ⊕ eqb s p)
-    = λ s l. c.xor-mask.ensures s l ∙ ap₂ ◌⊕◌ (c.and.ensures s l ∙ ap₂ ◌&&◌ (c.load-x.ensures s l) (k s l)) (c.row-partner.ensures s l) in
+    let k = kept p _ _ _ b c.row-partner.ensures c.row-own.ensures (λ s l. c.not-keep.ensures s l ∙ ap not (c.bitxor.ensures s l)) in
+    let mask : All (λ s. row_bit c.bitxor-mask.result s ≡ (bit_at w (8 * a) s && not (eqb (s % most_qubits) p)) ⊕ eqb s p)
+    = λ s l. c.bitxor-mask.ensures s l ∙ ap₂ ◌⊕◌ (c.bitand.ensures s l ∙ ap₂ ◌&&◌ (c.load-x.ensures s l) (k s l)) (c.row-partner.ensures s l) in
     let mu = rw same at c.multiply.ensures in (
       held n a p e.requires.1 e.requires.2 e.requires.3 e.args.coin _ _ w _ _ mask c.row-own.ensures mu c.settle.ensures e.requires.0,
       whole n a p e.requires.1 e.requires.2 e.requires.3 e.args.coin _ _ w _ _ mask c.row-own.ensures mu c.settle.ensures,

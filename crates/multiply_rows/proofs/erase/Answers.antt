@@ -3,4 +3,4 @@ use Rattle.multiply_rows.proofs.Columns.{erased_by}
 use Rattle.multiply_rows.proofs.erase.Goals as goal
 
 pub returns : goal.returns
-returns c = let e = c in erased_by e.args.w.now e.requires.0 e.args.j e.requires.1 e.args.g e.requires.2 e.args.own
+returns c = erased_by c.args.w.now c.told-w c.args.j c.requires.0 c.args.g c.requires.1 c.args.own

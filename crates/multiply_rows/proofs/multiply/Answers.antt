@@ -7,50 +7,44 @@ use Rattle.words.proofs.BitLaws.{bit-zero}
 use Rattle.groups.specs.Parts.Rows.{row_bit}
 use Rattle.multiply_rows.specs.declared.Powers.{Powers}
 use Rattle.multiply_rows.proofs.Loop.{multiply_none, multiply_more, multiply_clear, multiplying_same, letter_of, sign_of, none_there, multiplied}
-use borrow.Author.Rules.{rules}
 use Rattle.multiply_rows.proofs.multiply.Goals as goal
 use Rattle.multiply_rows.proofs.multiply.Goals.{then-x-z-eq1, else-x-z-eq1}
 
 pub loop-j-init : goal.loop-j-init
 loop-j-init c =
-    let e = c in
-    (search rules, multiply_none _ _ _ e.args.w.now e.requires.0 _ _ (λ s l. c.all-none.ensures s l ∙ bit-zero (s % 64)) (λ s l. c.all-none.ensures s l ∙ bit-zero (s % 64)))
+    multiply_none _ _ _ c.args.w.now c.told-w _ _ (λ s l. c.all-none.ensures s l ∙ bit-zero (s % 64)) (λ s l. c.all-none.ensures s l ∙ bit-zero (s % 64))
 
 pub loop-j-preserved : goal.loop-j-preserved
 loop-j-preserved c =
-    let e = c in
+    let e = c.args in
     let v = c.loop-j in
-    let u = c.if-x-z-eq1 in
-    let turn = c.loop-j-test.true in
-    let below : v.j < most_qubits = omega (arith, e.requires.1, turn) in
-    let m = row_bit e.args.mask in
-    let w₀ = e.args.w.now in
+    let below : v.j < most_qubits = omega (arith, c.requires.0, c.loop-j-test.true) in
+    let m = row_bit e.mask in
+    let w₀ = e.w.now in
     let hi = row_bit v.counts.hi in
-    let lo = row_bit v.counts.lo in (
-      omega (arith, turn),
-      elim u.branch [
-        | then-x-z-eq1 d ↦
-            multiplying_same
-            (multiply_more _ m _ w₀ v.j v.w hi lo v.invariant.1 below (row_bit e.args.keep) _ _ e.requires.4
-            (letter_of e.args.g e.args.q e.requires.2 e.requires.3 m w₀ v.j v.w hi lo v.invariant.1 below d.splat.result d.splat-then-x-z-eq1.result _ _ d.splat.ensures d.splat-then-x-z-eq1.ensures d.all-px.ensures d.all-pz.ensures)
-            d.times-counts.ensures (λ s l. refl))
-            d.w-is (ap (λ (r : Powers). row_bit r.hi) d.counts-is) (ap (λ (r : Powers). row_bit r.lo) d.counts-is)
-        | else-x-z-eq1 d ↦
-            multiplying_same
-            (multiply_clear e.args.g e.args.q e.requires.2 e.requires.3 m w₀ v.j v.w hi lo v.invariant.1 below
-            (none_there e.args.g e.args.q e.requires.2 e.requires.3 m w₀ v.j v.w hi lo v.invariant.1 below d.if-x-z-eq1.false) d.erase.ensures)
-            d.w-is (ap (λ (r : Powers). row_bit r.hi) d.counts-is) (ap (λ (r : Powers). row_bit r.lo) d.counts-is)
-      ],
-    )
+    let lo = row_bit v.counts.lo in
+    elim c.if-x-z-eq1.branch [
+      | then-x-z-eq1 d ↦
+          multiplying_same
+          (multiply_more _ m _ w₀ v.j v.w hi lo v.invariant below (row_bit e.keep) _ _ c.requires.3
+          (letter_of e.g e.q c.requires.1 c.requires.2 m w₀ v.j v.w hi lo v.invariant below d.splat.result d.splat-then-x-z-eq1.result _ _ d.splat.ensures d.splat-then-x-z-eq1.ensures d.all-px.ensures d.all-pz.ensures)
+          d.times-counts.ensures (λ s l. refl))
+          d.w-is (ap (λ (r : Powers). row_bit r.hi) d.counts-is) (ap (λ (r : Powers). row_bit r.lo) d.counts-is)
+      | else-x-z-eq1 d ↦
+          multiplying_same
+          (multiply_clear e.g e.q c.requires.1 c.requires.2 m w₀ v.j v.w hi lo v.invariant below
+          (none_there e.g e.q c.requires.1 c.requires.2 m w₀ v.j v.w hi lo v.invariant below d.if-x-z-eq1.false) d.erase.ensures)
+          d.w-is (ap (λ (r : Powers). row_bit r.hi) d.counts-is) (ap (λ (r : Powers). row_bit r.lo) d.counts-is)
+    ]
 
 pub returns : goal.returns
 returns c =
-    let e = c in
+    let e = c.args in
     let v = c.loop-j in
-    let end : v.j ≡ e.args.n = omega (arith, v.invariant.0, c.loop-j-test.false) in
-    let m = row_bit e.args.mask in
-    let w₀ = e.args.w.now in
+    let end : v.j ≡ e.n = omega (arith, c.loop-j-test.false, v.auto.j-end) in
+    let m = row_bit e.mask in
+    let w₀ = e.w.now in
     let hi = row_bit v.counts.hi in
     let lo = row_bit v.counts.lo in
-    multiplied _ m _ w₀ v.w _ e.args.n hi lo e.requires.1 (rw end at v.invariant.1) (row_bit e.args.keep) _ _ e.requires.4
-    (sign_of e.args.g e.args.q e.requires.2 e.requires.3 m w₀ v.j v.w hi lo v.invariant.1 c.splat-2.result _ c.splat-2.ensures c.all-minus.ensures (omega (arith, v.invariant.0, e.requires.1))) (λ s l. refl) c.sign.ensures
+    multiplied _ m _ w₀ v.w _ e.n hi lo c.requires.0 (rw end at v.invariant) (row_bit e.keep) _ _ c.requires.3
+    (sign_of e.g e.q c.requires.1 c.requires.2 m w₀ v.j v.w hi lo v.invariant c.splat-2.result _ c.splat-2.ensures c.all-minus.ensures (omega (arith, end, c.requires.0))) (λ s l. refl) c.sign.ensures

@@ -1,4 +1,4 @@
-use Prim.Native.Nat.{◌+◌, ◌-◌, ◌*◌, ◌≤◌}
+use Prim.Native.Nat.{◌+◌, ◌*◌}
 use Rattle.limits.specs.Limits.{most_qubits}
 use Rattle.packing.specs.View.{letter_at}
 use Rattle.groups.specs.Parts.Rows.{row_bit}
@@ -7,7 +7,4 @@ use Rattle.multiply_rows.proofs.multiply.Given as goal
 
 abbrev pub invariant-loop-j : goal.invariant-loop-j
 invariant-loop-j l =
-    (l.j ≤ l.n) × Multiplying (64 * l.g + l.q) (row_bit l.mask) (letter_at l.initial.w (most_qubits + (64 * l.g + l.q))) l.initial.w l.j l.w (row_bit l.counts.hi) (row_bit l.counts.lo)
-
-abbrev pub decreases-loop-j : goal.decreases-loop-j
-decreases-loop-j l = l.n - l.j
+    Multiplying (64 * l.g + l.q) (row_bit l.mask) (letter_at l.initial.w (most_qubits + (64 * l.g + l.q))) l.initial.w l.j l.w (row_bit l.counts.hi) (row_bit l.counts.lo)
