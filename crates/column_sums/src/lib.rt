@@ -25,22 +25,11 @@ fn differing(w: &Words, j: usize, e: usize) -> Group
     requires { (j < most_qubits) × (e < 4) }
     ensures { All (λ s. row_bit result s ≡ differ (letter_numbered e) (letter_at w.now s j)) }
 {
-    let x = groups::load(w, 8 * j);
-    let z = groups::load(w, 8 * j + 4);
-    let by_x = groups::and(groups::all(words::splat(e as u64, 0)), z);
-    let by_z = groups::and(groups::all(words::splat(e as u64, 1)), x);
-    groups::xor(by_x, by_z)
-}
-
-// Four words from o on.
-fn put(t: &mut [u64; SUMS], o: usize, g: Group)
-    requires { (length t.old ≡ sum_count) × (o + 4 ≤ sum_count) }
-    ensures { Replaced sum_count o (row_bit g) t.old t.new }
-{
-    t[o] = g.a;
-    t[o + 1] = g.b;
-    t[o + 2] = g.c;
-    t[o + 3] = g.d;
+    let x = Group::load(w, 8 * j);
+    let z = Group::load(w, 8 * j + 4);
+    let by_x = Group::all(words::splat(e as u64, 0)) & z;
+    let by_z = Group::all(words::splat(e as u64, 1)) & x;
+    by_x ^ by_z
 }
 
 // The sixteen sums of qubits j and half + j.
@@ -55,10 +44,10 @@ fn fill(w: &Words, half: usize, j: usize, t: &mut [u64; SUMS])
     while e < 4 {
         let s = differing(w, half + j, e);
         let o = 64 * j + 16 * e;
-        put(t, o, s);
-        put(t, o + 4, groups::xor(x, s));
-        put(t, o + 8, groups::xor(z, s));
-        put(t, o + 12, groups::xor(y, s));
+        s.store(t, o);
+        (x ^ s).store(t, o + 4);
+        (z ^ s).store(t, o + 8);
+        (y ^ s).store(t, o + 12);
         e += 1;
     }
 }
@@ -128,7 +117,7 @@ pub fn against(bytes: &[u8], at: usize, n: usize, w: &Words, found: &mut Words)
     let mut i: usize = 0;
     while i < n + n {
         let p = picks(bytes, row, half);
-        groups::store(found, 4 * i, picked(&t, &p, half));
+        picked(&t, &p, half).store(found, 4 * i);
         row += n + 1;
         i += 1;
     }

@@ -1,9 +1,9 @@
 -- What the bit operations of one column do to a letter, a count and a sign. Assumes nothing.
-use mathlib.Core.Path.{◌≡◌, sym, ap, ap₂, ◌∙◌}
+use mathlib.Core.Path.{◌≡◌, sym, ap, ◌∙◌}
 use mathlib.Core.Bool.{Bool, false, not, ◌&&◌, ◌||◌, cond}
 use mathlib.Core.List.{[], ◌∷◌}
 use Prim.Native.Nat.{ℕ, ◌-◌, ◌*◌, ◌/◌, ◌%◌, ◌^◌, ◌<◌}
-use lib.Bits.{bit_and, bit_or, bit_xor}
+use lib.Bits.{bit_and, bit_or}
 use lib.Dec.{eqb}
 use lib.Pow.{pow_pos}
 use native.Mathlib.Nat.{mod-lt}

@@ -10,6 +10,7 @@ ghost use Rattle.records.specs.Reading.{is_some, wrong_pair};
 ghost use Rattle.read_rows.specs.Parts.Loading.{First, Loaded};
 ghost use Rattle.pairing.specs.Parts.Partners.{partner, Rights};
 
+use groups::Group;
 use packing::Words;
 
 // The number that the partner of row i of the 2n has among the packed rows.
@@ -30,7 +31,7 @@ fn first_wrong(found: &Words, n: usize) -> usize
 {
     let mut i: usize = 0;
     while i < n + n {
-        if !groups::equal(groups::load(found, 4 * i), groups::row(partner(n, i))) {
+        if Group::load(found, 4 * i) != Group::row(partner(n, i)) {
             return i;
         }
         i += 1;

@@ -27,7 +27,7 @@ pub picked-requires : goal.picked-requires
 picked-requires c = (omega arith, picks_inside c.picks-p.ensures)
 
 pub store-requires : goal.store-requires
-store-requires c = (c.loop-i.invariant.2.words, omega arith)
+store-requires c = omega arith
 
 pub overflow_add-row-in-loop-i-2 : goal.overflow_add-row-in-loop-i-2
 overflow_add-row-in-loop-i-2 c =

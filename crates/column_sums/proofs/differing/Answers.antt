@@ -10,14 +10,10 @@ use Rattle.column_sums.proofs.differing.Goals as goal
 
 pub returns : goal.returns
 returns c s l =
-    let a1 = c in
-    let a0 = a1 in
-    let l1 = a0 in
-    let l0 = l1 in
-    let e = l0.args.e in
+    let e = c.args.e in
     let m = mod-lt s (zero-lt-suc 63) in
-    c.xor.ensures s l
+    c.bitxor.ensures s l
     ∙ ap₂ ◌⊕◌
-    (a0.and-by_x.ensures s l ∙ ap₂ ◌&&◌ (a0.all.ensures s l ∙ a0.splat.ensures (s % 64) m) (l1.load-z.ensures s l))
-    (a1.and-by_z.ensures s l ∙ ap₂ ◌&&◌ (a1.all-2.ensures s l ∙ a1.splat-2.ensures (s % 64) m) (l0.load-x.ensures s l))
+    (c.bitand-by_x.ensures s l ∙ ap₂ ◌&&◌ (c.all.ensures s l ∙ c.splat.ensures (s % 64) m) (c.load-z.ensures s l))
+    (c.bitand-by_z.ensures s l ∙ ap₂ ◌&&◌ (c.all-2.ensures s l ∙ c.splat-2.ensures (s % 64) m) (c.load-x.ensures s l))
     ∙ differ-bits (bit 0 e) (bit 1 e) _ _

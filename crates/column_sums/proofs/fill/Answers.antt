@@ -23,12 +23,6 @@ overflow_add-o-in-loop-e-3 c =
     let o : 64 * b.args.j + 16 * v.e + 16 ≤ sum_count = omega (arith, b.requires.0, b.requires.1, d.loop-e-test.true) in
     search rules
 
-pub put-requires-in-loop-e-3 : goal.put-requires-in-loop-e-3
-put-requires-in-loop-e-3 c =
-    let d = c in
-    let b = d in
-    (c.put-in-loop-e-2.ensures.words, omega (arith, b.requires.0, b.requires.1, d.loop-e-test.true))
-
 pub loop-e-preserved : goal.loop-e-preserved
 loop-e-preserved c =
     let p3 = c in
@@ -41,10 +35,10 @@ loop-e-preserved c =
     let r = d.differing-s in (
       omega (arith, d.loop-e-test.true),
       four_more a.w.now a.half a.j v.e d.loop-e-test.true v.invariant.1
-          p1.put.ensures (λ s l. r.ensures s l ∙ sym (none_differs (letter_at a.w.now s a.j) _))
-          p2.put-in-loop-e.ensures (λ s l. p2.xor.ensures s l ∙ ap₂ ◌⊕◌ (g.differing-x.ensures s l) (r.ensures s l))
-          p3.put-in-loop-e-2.ensures (λ s l. p3.xor-in-loop-e.ensures s l ∙ ap₂ ◌⊕◌ (g.differing-z.ensures s l) (r.ensures s l))
-          c.put-in-loop-e-3.ensures (λ s l. c.xor-in-loop-e-2.ensures s l ∙ ap₂ ◌⊕◌ (g.differing-y.ensures s l) (r.ensures s l)),
+          p1.store.ensures (λ s l. r.ensures s l ∙ sym (none_differs (letter_at a.w.now s a.j) _))
+          p2.store-in-loop-e.ensures (λ s l. p2.bitxor.ensures s l ∙ ap₂ ◌⊕◌ (g.differing-x.ensures s l) (r.ensures s l))
+          p3.store-in-loop-e-2.ensures (λ s l. p3.bitxor-in-loop-e.ensures s l ∙ ap₂ ◌⊕◌ (g.differing-z.ensures s l) (r.ensures s l))
+          c.store-in-loop-e-3.ensures (λ s l. c.bitxor-in-loop-e-2.ensures s l ∙ ap₂ ◌⊕◌ (g.differing-y.ensures s l) (r.ensures s l)),
     )
 
 pub returns : goal.returns

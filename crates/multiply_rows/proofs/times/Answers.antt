@@ -16,7 +16,25 @@ returns c =
           simp (c.bitxor-nx.ensures s l, c.bitxor-nz.ensures s l, c.bitand-x.ensures s l, c.bitand-z.ensures s l, c.bitand.ensures s l, c.bitand-2.ensures s l, c.load.ensures s l, c.load-2.ensures s l)
           (letters_law (bit_at w (8 * a.j) s && row_bit a.keep s) (bit_at w (8 * a.j + 4) s && row_bit a.keep s) (row_bit a.px s) (row_bit a.pz s) (row_bit a.mask s)));
       counts = λ s l.
-          simp (c.bitxor-4.ensures s l, c.bitxor-5.ensures s l, c.bitand-4.ensures s l, c.bitxor-carry.ensures s l, c.bitand-odd.ensures s l, c.bitxor.ensures s l, c.bitxor-2.ensures s l, c.bitxor-3.ensures s l,
-            c.bitand-t.ensures s l, c.bitand-3.ensures s l, c.bitxor-nx.ensures s l, c.bitxor-nz.ensures s l, c.bitand-x.ensures s l, c.bitand-z.ensures s l, c.bitand.ensures s l, c.bitand-2.ensures s l, c.load.ensures s l, c.load-2.ensures s l)
+          simp (
+            c.bitxor-4.ensures s l,
+            c.bitxor-5.ensures s l,
+            c.bitand-4.ensures s l,
+            c.bitxor-carry.ensures s l,
+            c.bitand-odd.ensures s l,
+            c.bitxor.ensures s l,
+            c.bitxor-2.ensures s l,
+            c.bitxor-3.ensures s l,
+            c.bitand-t.ensures s l,
+            c.bitand-3.ensures s l,
+            c.bitxor-nx.ensures s l,
+            c.bitxor-nz.ensures s l,
+            c.bitand-x.ensures s l,
+            c.bitand-z.ensures s l,
+            c.bitand.ensures s l,
+            c.bitand-2.ensures s l,
+            c.load.ensures s l,
+            c.load-2.ensures s l,
+          )
           (counts_law (bit_at w (8 * a.j) s && row_bit a.keep s) (bit_at w (8 * a.j + 4) s && row_bit a.keep s) (row_bit a.px s) (row_bit a.pz s) (row_bit a.mask s) (row_bit a.counts.hi s) (row_bit a.counts.lo s));
     }
