@@ -4,4 +4,3 @@ pub mod Writing
 pub mod Answered
 pub mod Numbered
 pub mod Accepting
-pub mod Within

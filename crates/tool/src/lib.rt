@@ -159,6 +159,12 @@ pub fn tail<R: Files + Env + Eprint + AllocGlobal>(rt: &R, i: usize) -> Result<V
     Ok(bytes)
 }
 
+// Prints the bytes as a line.
+pub fn print_line(rt: &impl Print, bytes: &[u8]) -> io::Result<()> {
+    rt.write_all(bytes)?;
+    rt.write_all(b"\n")
+}
+
 // The file of that name for writing at its back, made where it is missing.
 fn open_back<R: Files>(rt: &R, name: &[u8]) -> io::Result<R::File> {
     let path = path(name)?;

@@ -2,38 +2,28 @@
 #![tactic(auto)]
 
 use answers::Refusal;
-use archive::Same;
+use archive::Unread;
+use std::env::Env;
 use std::io;
+use std::rt::Files;
+use tool::Stop;
 
-fn refuse(rt: &impl Print, which: &[u8], r: Refusal) -> io::Result<()> {
-    tool::say(rt, b"refused ")?;
-    tool::say(rt, which)?;
-    tool::say_number(rt, answers::number(r))?;
-    tool::say(rt, b" ")?;
-    tool::say_number(rt, answers::place(r) as u64)?;
-    tool::say(rt, b"\n")
+fn refuse(rt: &impl Print, which: &str, r: Refusal) -> io::Result<()> {
+    println!(rt; "refused {which} {} {}", r.number(), r.place())
 }
 
-fn compare(rt: &impl Print, first: &[u8], second: &[u8]) -> io::Result<()> {
-    match library::same_state(first, second) {
-        Same::Equal => tool::say(rt, b"same\n"),
-        Same::Different => tool::say(rt, b"different\n"),
-        Same::First(r) => refuse(rt, b"first ", r),
-        Same::Second(r) => refuse(rt, b"second ", r),
+fn compare<R: Files + Env + Print + Eprint + AllocGlobal>(rt: &R) -> Result<(), Stop> {
+    let first = tool::tail(rt, 1)?;
+    let second = tool::tail(rt, 2)?;
+    match library::same_state(&first, &second) {
+        Ok(true) => rt.println("same")?,
+        Ok(false) => rt.println("different")?,
+        Err(Unread::First(r)) => refuse(rt, "first", r)?,
+        Err(Unread::Second(r)) => refuse(rt, "second", r)?,
     }
+    Ok(())
 }
 
-// The first archive stays open no longer than its tail is read.
 fn main(rt: HostRuntime) -> io::Result<()> {
-    let Some(one) = tool::open_word(&rt, 1)? else {
-        return Ok(());
-    };
-    let mut first = tool::tail_buffer();
-    let n = tool::fill_tail(one, &mut first)?;
-    let Some(other) = tool::open_word(&rt, 2)? else {
-        return Ok(());
-    };
-    let mut second = tool::tail_buffer();
-    let m = tool::fill_tail(other, &mut second)?;
-    compare(&rt, &first[..n], &second[..m])
+    tool::ended(compare(&rt))
 }
