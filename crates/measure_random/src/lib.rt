@@ -10,7 +10,7 @@ ghost use Rattle.groups.specs.Parts.Rows.{row_bit};
 ghost use Rattle.measure_random.specs.Parts.Settled.{Settled};
 
 use groups::Group;
-use packing::Words;
+use packing::{Packed, Words};
 use std::hint::select_unpredictable;
 
 // The row that `own` has, which is all I, becomes Z on a with the coin's sign.
@@ -27,10 +27,12 @@ fn settle(w: &mut Words, a: usize, own: Group, coin: bool)
 }
 
 // The random measurement of a at stabilizer p.
-pub fn collapse(w: &mut Words, n: usize, a: usize, p: usize, coin: bool)
-    requires { Holds n w.old × (n ≤ most_qubits) × (a < n) × (p < n) }
-    ensures { Holds n w.new × (rows_of n w.new ≡ collapsed n a p coin (rows_of n w.old)) }
+pub fn collapse(rows: &mut Packed, a: usize, p: usize, coin: bool)
+    requires { (a < rows.old.qubits) × (p < rows.old.qubits) }
+    ensures { (rows.new.qubits ≡ rows.old.qubits) × (rows_of rows.old.qubits rows.new.words ≡ collapsed rows.old.qubits a p coin (rows_of rows.old.qubits rows.old.words)) }
 {
+    let n = rows.qubits;
+    let w = &mut rows.words;
     let partner = Group::row(p);
     let own = Group::row(limits::MOST_QUBITS + p);
     let keep = !(partner ^ own);
