@@ -9,10 +9,10 @@ ghost use Rattle.limits.specs.Limits.{most_qubits};
 ghost use Rattle.pauli.specs.Rows.{odd_number};
 ghost use Rattle.clifford.specs.Measurement.{fixed_value};
 ghost use Rattle.words.specs.Bit.{bit};
-ghost use Rattle.packing.specs.View.{Holds, rows_of};
+ghost use Rattle.packing.specs.View.{rows_of};
 ghost use Rattle.measure_fixed.specs.Parts.Column.{count, power_of, pair, all_powers};
 
-use packing::Words;
+use packing::{Packed, Words};
 
 // Bit k is the parity of the bits of z up to k, the last one with them.
 fn parities(z: u64) -> u64
@@ -95,10 +95,12 @@ fn first_powers(w: &Words, sel: u64, n: usize) -> u64
 }
 
 // The stabilizers whose partners have X or Y at a, multiplied: 1 when the sign is minus. Of none the sign is plus, and of one it is its own.
-pub fn fixed_value(w: &Words, n: usize, a: usize) -> bool
-    requires { Holds n w.now × (n ≤ most_qubits) × (a < n) }
-    ensures { result ≡ fixed_value n a (rows_of n w.now) }
+pub fn fixed_value(rows: &Packed, a: usize) -> bool
+    requires { a < rows.now.qubits }
+    ensures { result ≡ fixed_value rows.now.qubits a (rows_of rows.now.qubits rows.now.words) }
 {
+    let n = rows.qubits;
+    let w = &rows.words;
     let i = 8 * a;
     let sel = w[i];
     let tel = w[i + 1];

@@ -35,8 +35,8 @@ overflow_cast-p c = small _
 
 pub returns-then-p-eq64 : goal.returns-then-p-eq64
 returns-then-p-eq64 c =
-    let b = c in
-    fixed_none b.args.n b.args.a b.args.w.now b.requires.0 b.requires.1 b.requires.2 c.if-tel-eq0.true c.if-p-eq64.true
+    let r = c.args.rows.now in
+    fixed_none r.qubits c.args.a r.words r.holds r.few c.requires c.if-tel-eq0.true c.if-p-eq64.true
 
 pub overflow_shr-sel : goal.overflow_shr-sel
 overflow_shr-sel c = below _ c.if-p-eq64.false
@@ -46,25 +46,24 @@ overflow_shr-result c = below _ c.if-p-eq64.false
 
 pub returns-then-sel-p-eq1 : goal.returns-then-sel-p-eq1
 returns-then-sel-p-eq1 c =
-    let b = c in
-    fixed_one b.args.n b.args.a b.args.w.now b.requires.0 b.requires.1 b.requires.2 0 (omega arith) (but_first _ c.if-tel-eq0.true) (below _ c.if-p-eq64.false) c.if-sel-p-eq1.true
+    let r = c.args.rows.now in
+    fixed_one r.qubits c.args.a r.words r.holds r.few c.requires 0 (omega arith) (but_first _ c.if-tel-eq0.true) (below _ c.if-p-eq64.false) c.if-sel-p-eq1.true
 
 pub returns-then-tel-eq0 : goal.returns-then-tel-eq0
 returns-then-tel-eq0 c =
-    let b = c in
-    let w = b.args.w.now in
+    let r = c.args.rows.now in
     sym (minus_power c.first_powers.result)
-    ∙ ap minus_sign (c.first_powers.ensures ∙ ap (λ (t : ℕ). all_powers most_qubits b.args.n w (pair (get_or w (8 * b.args.a) 0) t)) (sym c.if-tel-eq0.true) ∙ sym (tied b.args.n b.args.a b.args.w.now b.requires.0 b.requires.1 b.requires.2))
+    ∙ ap minus_sign (c.first_powers.ensures ∙ ap (λ (t : ℕ). all_powers most_qubits r.qubits r.words (pair (get_or r.words (8 * c.args.a) 0) t)) (sym c.if-tel-eq0.true) ∙ sym (tied r.qubits c.args.a r.words r.holds r.few c.requires))
 
 pub overflow_cast-p-then-sel-eq0 : goal.overflow_cast-p-then-sel-eq0
 overflow_cast-p-then-sel-eq0 c = small _
 
 pub returns-then-tel-p-eq1 : goal.returns-then-tel-p-eq1
 returns-then-tel-p-eq1 c =
-    let b = c in
-    fixed_one b.args.n b.args.a b.args.w.now b.requires.0 b.requires.1 b.requires.2 1 (omega arith) (but_second _ c.if-sel-eq0.true) c.if-p-lt64.true c.if-tel-p-eq1.true
+    let r = c.args.rows.now in
+    fixed_one r.qubits c.args.a r.words r.holds r.few c.requires 1 (omega arith) (but_second _ c.if-sel-eq0.true) c.if-p-lt64.true c.if-tel-p-eq1.true
 
 pub returns : goal.returns
 returns c =
-    let b = c in
-    sym (minus_power c.powers.result) ∙ ap minus_sign (c.powers.ensures ∙ sym (tied b.args.n b.args.a b.args.w.now b.requires.0 b.requires.1 b.requires.2))
+    let r = c.args.rows.now in
+    sym (minus_power c.powers.result) ∙ ap minus_sign (c.powers.ensures ∙ sym (tied r.qubits c.args.a r.words r.holds r.few c.requires))
