@@ -8,8 +8,7 @@ use native.Mathlib.Nat.{eq-or-lt_of_le, le_of_suc-le-suc, mod-lt, zero-lt-suc}
 use native.Mathlib.Numerals.{add-one}
 use native.Mathlib.Omega.{arith}
 use lib.Dec.{eqb, ltb}
-use lib.ListN.{get_or, set, length-set}
-use lib.Seq.{get_or-set_same, get_or-set_other}
+use lib.ListN.{get_or, set}
 use borrow.Author.Tests.{eqb-true, eqb-false, eq-eqb, ne_eqb, ltb-true, ltb-false, lt-ltb, le-ltb}
 use Rattle.limits.specs.Limits.{most_qubits}
 use Rattle.words.specs.Bit.{bit}
@@ -20,18 +19,6 @@ use Rattle.packing.specs.View.{row_count, sign_words, word_count, Words, bit_at,
 use Rattle.packing.specs.Parts.Changes.{Changed}
 use Rattle.packing.proofs.Groups.{word_of, changed_one, elsewhere, new_letter, old_letter}
 use Rattle.packing.proofs.Views.{row_eq, guarded, all_rows}
-
--- the first i words are 0
-pub record Cleared (i : ℕ) (w : List ℕ) : Type 0 where
-  pub words : Words w
-  pub zeros : (k : ℕ) → k < i → get_or w k 0 ≡ 0
-
-pub cleared_more : (i : ℕ) (w : List ℕ) → i < word_count → Cleared i w → Cleared (i + 1) (set w i 0)
-cleared_more i w il a = record { words = simp length-set a.words; zeros = λ k l. go k (eqb k i) refl l }
-  where
-    go : (k : ℕ) (b : Bool) → eqb k i ≡ b → k < i + 1 → get_or (set w i 0) k 0 ≡ 0
-    go k true e l = ap (λ (m : ℕ). get_or (set w i 0) m 0) (eqb-true k i e) ∙ get_or-set_same w i 0 0 (omega (arith, a.words))
-    go k false e l = let d : k ≢ i = eqb-false k i e in get_or-set_other w i k 0 0 d ∙ a.zeros k (omega arith)
 
 -- the first i qubits have their letters, and nothing else is set
 pub record Started (i : ℕ) (w : List ℕ) : Type 0 where
