@@ -4,13 +4,13 @@
 ghost use Rattle.std.specs.Prelude.{◌≡◌, ℕ, ◌<◌, ◌≤◌, get_or};
 ghost use Rattle.limits.specs.Limits.{most_qubits};
 ghost use Rattle.clifford.specs.Tableau.{start};
-ghost use Rattle.packing.specs.View.{word_count, rows_of, Holds};
+ghost use Rattle.packing.specs.View.{word_count, Words, rows_of, Holds};
 
 use packing::{Packed, Words};
 
 // No bit is set.
 pub fn clear(w: &mut Words)
-    ensures { (k : ℕ) → k < word_count → get_or w.new k 0 ≡ 0 }
+    ensures { Words w.new × ((k : ℕ) → k < word_count → get_or w.new k 0 ≡ 0) }
 {
     *w = [0; packing::WORDS];
 }

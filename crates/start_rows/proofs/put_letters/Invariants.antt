@@ -1,3 +1,4 @@
+-- `start_rows::put_letters` keeps the qubits that have their letters. Assumes nothing.
 use Rattle.start_rows.proofs.Starting.{Started}
 use Rattle.start_rows.proofs.put_letters.Given as goal
 

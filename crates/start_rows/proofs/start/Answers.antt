@@ -1,3 +1,4 @@
+-- `start_rows::start` meets its contract. Assumes nothing.
 use Rattle.std.proofs.lemmas.List.{get_or-replicate}
 use Rattle.packing.specs.View.{word_count}
 use Rattle.start_rows.proofs.start.Goals as goal
