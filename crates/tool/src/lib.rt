@@ -2,6 +2,8 @@
 // of a file here and in a file's place in `replacing`, and how a program ends that cannot go on. Files are read up to a limit, so that an archive may have any size.
 #![tactic(auto)]
 
+ghost use Rattle.std.specs.Prelude.{◌≤◌, IfOk, IfSome, vec_len};
+
 mod replacing;
 
 pub use replacing::save;
@@ -77,7 +79,9 @@ fn cannot<R: Eprint + AllocGlobal>(rt: &R, what: &str, name: &[u8], why: Error) 
 }
 
 // The i-th word of the command line; none where it is missing or longer than any name.
-pub fn word<R: Env + AllocGlobal>(rt: &R, i: usize) -> io::Result<Option<Vec<u8>>> {
+pub fn word<R: Env + AllocGlobal>(rt: &R, i: usize) -> io::Result<Option<Vec<u8>>>
+    ensures { IfOk result (λ word. IfSome word (λ bytes. vec_len bytes ≤ LONGEST_WORD)) }
+{
     let mut buf = [0u8; LONGEST_WORD];
     match rt.arg(i, &mut buf) {
         Ok(n) => Ok(Some(buf[..n].to_vec(rt.alloc())?)),
@@ -124,7 +128,9 @@ fn read_word<R: Files + Env + Eprint + AllocGlobal>(
     i: usize,
     most: u32,
     too_long: &str,
-) -> Result<Vec<u8>, Stop> {
+) -> Result<Vec<u8>, Stop>
+    ensures { IfOk result (λ bytes. vec_len bytes ≤ most) }
+{
     let file = open_word(rt, i)?;
     let mut bytes = Vec::new(rt.alloc());
     let n = file.take(u64::from(most) + 1).read_to_end(&mut bytes)?;
@@ -135,12 +141,16 @@ fn read_word<R: Files + Env + Eprint + AllocGlobal>(
 }
 
 // The circuit of the file that the first word names.
-pub fn circuit<R: Files + Env + Eprint + AllocGlobal>(rt: &R) -> Result<Vec<u8>, Stop> {
+pub fn circuit<R: Files + Env + Eprint + AllocGlobal>(rt: &R) -> Result<Vec<u8>, Stop>
+    ensures { IfOk result (λ bytes. vec_len bytes ≤ LONGEST_CIRCUIT) }
+{
     read_word(rt, 1, LONGEST_CIRCUIT, "the circuit is too long")
 }
 
 // The coins of the file that the second word names.
-pub fn coins<R: Files + Env + Eprint + AllocGlobal>(rt: &R) -> Result<Vec<u8>, Stop> {
+pub fn coins<R: Files + Env + Eprint + AllocGlobal>(rt: &R) -> Result<Vec<u8>, Stop>
+    ensures { IfOk result (λ bytes. vec_len bytes ≤ MOST_COINS) }
+{
     read_word(rt, 2, MOST_COINS, "there are too many coins")
 }
 
