@@ -1,10 +1,11 @@
 -- The probability of a stated readout: document 02, request h, order of refusals 1 to 6, then 15, then 10, then 14. Assumes nothing.
 use Rattle.std.specs.Prelude.{Bool, ◌||◌, not, List, map, ◌≡◌, ℕ, eqb, leb, length, get_or}
-use Rattle.std.specs.Prelude.{Option}
+use Rattle.std.specs.Prelude.{Option, Result, Ok, Err}
 use Rattle.limits.specs.Limits.{most_halvings}
 use Rattle.answers.specs.First.{lowest}
 use Rattle.answers.specs.Verdict.{Verdict, accepted, refused, then, unless, unless_at}
-use Rattle.answers.specs.Refusals.{number_of, place_of}
+use Rattle.answers.specs.declared.Refusal.{Refusal}
+use Rattle.answers.specs.Refusals.{told}
 use Rattle.circuit.specs.Text.{meaning, count_measured}
 use Rattle.half.specs.Half.{Halved}
 use Rattle.readouts.specs.Readouts.{Weighed, possible, impossible, weigh_circuit}
@@ -36,18 +37,20 @@ told_limit (impossible line) = accepted (impossible line)
 unfoldable pub probability_of : List ℕ → List ℕ → Verdict Weighed
 probability_of text stated = then (meaning text) (λ c. well_stated stated (count_measured c.ops) (told_limit (weigh_circuit c (map value_of stated))))
 
-abbrev pub told_chance : Chance → Verdict Weighed
-told_chance (chance.Possible l) = accepted (possible l.k)
-told_chance (chance.Impossible line) = accepted (impossible line)
-told_chance (chance.Refused r) = refused (number_of r) (place_of r)
+abbrev pub weighed_of : Chance → Weighed
+weighed_of (chance.Possible l) = possible l.k
+weighed_of (chance.Impossible line) = impossible line
+
+abbrev pub told_chance : Result Chance Refusal → Verdict Weighed
+told_chance r = then (told r) (λ c. accepted (weighed_of c))
 
 -- where it is possible, the answer's double is one half to the power of its k
-abbrev pub DoubleOf : Chance → Type 0
-DoubleOf (chance.Possible l) = Halved l.k l.probability
-DoubleOf (chance.Impossible line) = Unit {0}
-DoubleOf (chance.Refused r) = Unit {0}
+abbrev pub DoubleOf : Result Chance Refusal → Type 0
+DoubleOf (Ok (chance.Possible l)) = Halved l.k l.probability
+DoubleOf (Ok (chance.Impossible line)) = Unit {0}
+DoubleOf (Err r) = Unit {0}
 
 -- the answer tells this verdict, with the double of its k
-pub record Tells (v : Verdict Weighed) (r : Chance) : Type 0 where
+pub record Tells (v : Verdict Weighed) (r : Result Chance Refusal) : Type 0 where
   pub told : told_chance r ≡ v
   pub double : DoubleOf r

@@ -12,111 +12,87 @@ ghost use Rattle.probability.specs.Probability.{is_value, well_stated, told_limi
 ghost use Rattle.probability.specs.Parts.Stating.{Other, StatedAs, weighed_as};
 
 use answers::Refusal;
-use checking::{Counted, Heading};
 use half::Likelihood;
-use weighing::{Passed, Weight};
+use weighing::Stopped;
 
-// k and its double, the line of the first fixed measurement that disagrees, or a refusal.
-#[derive(Drop)]
+// A readout is possible, with k and its double; or impossible, since the fixed measurement on this line disagrees, the first that does.
+#[derive(Clone, Copy, Debug)]
 pub enum Chance {
     Possible(Likelihood),
     Impossible(usize),
-    Refused(Refusal),
 }
 
-fn value(b: u8) -> bool
+fn is_value(b: u8) -> bool
     ensures { result ≡ is_value b }
 {
     (b == b'0') | (b == b'1')
 }
 
-// The first place with another character, or the length.
-fn other(stated: &[u8]) -> usize
-    ensures { Other stated.now result }
+fn first_other(stated: &[u8]) -> Option<usize>
+    ensures { result ≡ first_other stated.now }
 {
-    let mut k = 0;
-    while k < stated.len() {
-        if !value(stated[k]) {
-            return k;
-        }
-        k += 1;
-    }
-    k
-}
-
-#[derive(Drop)]
-enum Stated {
-    Good,
-    Refused(Refusal),
+    stated.iter().position(|b| !is_value(*b))
 }
 
 // 15 for another number of characters than this, then 10 for another character.
-fn well_stated(stated: &[u8], measured: usize) -> Stated
-    ensures { StatedAs stated.now measured result }
+fn well_stated(stated: &[u8], measured: usize) -> Result<(), Refusal>
+    ensures { (v : Verdict Weighed) → well_stated stated.now measured v ≡ then (told result) (λ _. v) }
 {
-    let at = other(stated);
     if stated.len() != measured {
-        return Stated::Refused(Refusal::ReadoutLength);
+        return Err(Refusal::ReadoutLength);
     }
-    if at < stated.len() {
-        return Stated::Refused(Refusal::BadByte(at));
+    match first_other(stated) {
+        Some(at) => Err(Refusal::BadByte(at)),
+        None => Ok(()),
     }
-    Stated::Good
 }
 
-// The line on which a fixed measurement disagrees; where there is none, which 0 says, 14, or k with its double.
-fn chance_of(random: usize, against: usize) -> Chance
+// The line on which a fixed measurement disagrees; where there is none, 14, or k with its double.
+fn chance_of(random: usize, against: Option<usize>) -> Result<Chance, Refusal>
     ensures { Tells (told_limit (weighed_as random against)) result }
 {
+    if let Some(line) = against {
+        return Ok(Chance::Impossible(line));
+    }
     let k = random as u64;
-    if 0 < against {
-        return Chance::Impossible(against);
-    }
     if limits::MOST_HALVINGS < k {
-        return Chance::Refused(Refusal::TooUnlikely);
+        return Err(Refusal::TooUnlikely);
     }
-    Chance::Possible(half::likelihood_of(k))
+    Ok(Chance::Possible(Likelihood::of(k)))
 }
 
 // The text is accepted, and has so many measurements.
-fn judged(stated: &[u8], measured: usize, random: usize, against: usize) -> Chance
+fn judged(stated: &[u8], measured: usize, random: usize, against: Option<usize>) -> Result<Chance, Refusal>
     ensures { Tells (well_stated stated.now measured (told_limit (weighed_as random against))) result }
 {
-    match well_stated(stated, measured) {
-        Stated::Good => chance_of(random, against),
-        Stated::Refused(r) => Chance::Refused(r),
-    }
+    well_stated(stated, measured)?;
+    chance_of(random, against)
 }
 
 // The walk stopped at the line that begins here, behind so many operations and with these counts.
-fn halted(text: &[u8], n: usize, at: usize, done: usize, passed: Passed, stated: &[u8]) -> Chance
+fn halted(text: &[u8], n: usize, at: usize, done: usize, passed: Passed, stated: &[u8]) -> Result<Chance, Refusal>
     requires { (n ≤ most_qubits) × (done ≤ most_operations) × (passed.measured ≤ done) }
     ensures { Tells (then (then (operations n (most_operations - done) (done + 2) (drop at text.now)) (λ ops. accepted (added done passed.measured ops))) (λ c. well_stated stated.now c.measured (accepted (impossible (done + 2))))) result }
 {
-    match checking::scan_lines(text, at, n, done, passed.measured) {
-        Counted::Lines(_, all) => judged(stated, all, passed.random, done + 2),
-        Counted::Refused(r) => Chance::Refused(r),
-    }
+    let all = checking::scan_lines(text, at, n, done, passed.measured)?;
+    judged(stated, all.measured, passed.random, Some(done + 2))
 }
 
-fn weighed(text: &[u8], body: usize, n: usize, stated: &[u8]) -> Chance
+fn weighed(text: &[u8], body: usize, n: usize, stated: &[u8]) -> Result<Chance, Refusal>
     requires { Headed text.now n body }
     ensures { Tells (probability_of text.now stated.now) result }
 {
-    let mut words = [0u64; packing::WORDS];
-    start_rows::start(&mut words, n);
-    match weighing::weigh(text, body, &mut words, n, stated) {
-        Weight::Done(passed) => judged(stated, passed.measured, passed.random, 0),
-        Weight::Stopped { at, done, passed } => halted(text, n, at, done, passed, stated),
+    let mut rows = start_rows::start(n);
+    match weighing::weigh(text, body, &mut rows, stated) {
+        Ok(passed) => judged(stated, passed.measured, passed.random, None),
+        Err(stopped) => halted(text, n, stopped, stated),
     }
 }
 
 // A circuit is lent, and a character `0` or `1` for each of its measurements.
-pub fn probability(text: &[u8], stated: &[u8]) -> Chance
+pub fn probability(text: &[u8], stated: &[u8]) -> Result<Chance, Refusal>
     ensures { Tells (probability_of text.now stated.now) result }
 {
-    match checking::head(text) {
-        Heading::Qubits(n, body) => weighed(text, body, n, stated),
-        Heading::Refused(r) => Chance::Refused(r),
-    }
+    let heading = checking::head(text)?;
+    weighed(text, heading.body, heading.qubits, stated)
 }

@@ -1,110 +1,91 @@
-// The walk over the operation lines of a text on lent coins: they are read and run one by one over the packed tableau, each outcome a character in a
-// lent array. A line that is refused, or finds no coin, stops the walk.
+// The walk over the operation lines of a text on lent coins: they are read and run one by one over the packed tableau, each outcome a character in an
+// array. A line that is refused, or finds no coin, breaks the walk off.
 #![tactic(auto)]
 
 ghost use Rattle.std.specs.Prelude.{◌≡◌, ◌≤◌, ◌<◌, length, drop};
 ghost use Rattle.clifford.specs.Run.{Valid};
 ghost use Rattle.quick_lines.specs.Parts.Coded.{following, op_in, name_in};
 ghost use Rattle.limits.specs.Limits.{most_qubits};
-ghost use Rattle.packing.specs.View.{Words, rows_of, Holds};
-ghost use Rattle.records.specs.Record.{mark_of};
+ghost use Rattle.packing.specs.View.{Words, rows_of};
+ghost use Rattle.records.specs.Record.{mark};
 ghost use Rattle.walking.specs.Parts.Walk.{flipped, ShotAs, Room, MeasureAs, Applies, StepAs, Walkable, WalkAs};
 
-use clifford::One;
-use packing::Words;
-use random_row::LowestRow;
+use clifford::{One, Outcome};
+use packing::{Packed, Words};
 use tally::Tally;
 
-// What a measurement answers: its value, or that it is random and finds no coin.
-#[derive(Drop)]
-pub enum Shot {
-    Fixed(bool),
-    Random(bool),
-    NoCoin,
-}
-
 // X on a, where it is to be applied.
-fn flip(words: &mut Words, n: usize, a: usize, applies: bool)
-    requires { Holds n words.old × (n ≤ most_qubits) × (a < n) }
-    ensures { Holds n words.new × (rows_of n words.new ≡ flipped a applies (rows_of n words.old)) }
+fn flip(rows: &mut Packed, a: usize, applies: bool)
+    requires { a < rows.old.qubits }
+    ensures { (rows.new.qubits ≡ rows.old.qubits) × (rows_of rows.new.qubits rows.new.words ≡ flipped a applies (rows_of rows.old.qubits rows.old.words)) }
 {
     if applies {
-        let x = clifford::letter(One::PauliX) as usize;
-        columns::one(words, x, a);
+        columns::one(&mut rows.words, usize::from(u8::from(One::PauliX)), a);
     }
 }
 
-pub fn shoot(words: &mut Words, n: usize, reset: bool, a: usize, coins: &[u8], used: usize) -> Shot
-    requires { Holds n words.old × (n ≤ most_qubits) × (a < n) × (used ≤ length coins.now) }
-    ensures { Holds n words.new × ShotAs n (following reset) a (rows_of n words.old) (drop used coins.now) result (rows_of n words.new) }
+// The measurement of a with the coin behind so many that are used, and what follows it; none where it is random and finds no coin.
+pub fn shoot(rows: &mut Packed, reset: bool, a: usize, coins: &[u8], used: usize) -> Option<Outcome>
+    requires { (a < rows.old.qubits) × (used ≤ length coins.now) }
+    ensures { ShotAs (following reset) a rows.old (drop used coins.now) result rows.new }
 {
-    match random_row::random_row(words, n, a) {
-        LowestRow::Nothing => {
-            let outcome = measure_fixed::fixed_value(words, n, a);
-            flip(words, n, a, reset & outcome);
-            Shot::Fixed(outcome)
+    match random_row::random_row(rows, a) {
+        None => {
+            let value = measure_fixed::fixed_value(rows, a);
+            flip(rows, a, reset & value);
+            Some(Outcome {
+                random: false,
+                value,
+            })
         }
-        LowestRow::At(p) => {
-            if coins.len() <= used {
-                return Shot::NoCoin;
-            }
-            let coin = coins[used] % 2 == 1;
-            measure_random::collapse(words, n, a, p, coin);
-            flip(words, n, a, reset & coin);
-            Shot::Random(coin)
+        Some(p) => {
+            let coin = *coins.get(used)? % 2 == 1;
+            measure_random::collapse(rows, a, p, coin);
+            flip(rows, a, reset & coin);
+            Some(Outcome {
+                random: true,
+                value: coin,
+            })
         }
     }
 }
 
 // The character of an outcome.
-fn mark(random: bool, value: bool) -> u8
-    ensures { result ≡ mark_of random value }
+fn mark(outcome: Outcome) -> u8
+    ensures { result ≡ mark outcome }
 {
-    if random {
-        if value { b'3' } else { b'2' }
-    } else {
-        if value { b'1' } else { b'0' }
+    match (outcome.random, outcome.value) {
+        (false, false) => b'0',
+        (false, true) => b'1',
+        (true, false) => b'2',
+        (true, true) => b'3',
     }
 }
 
-// What a line comes to: the position behind it and the tally, or a measurement without a coin, or a line that is refused.
-#[derive(Drop)]
-enum Step {
-    Next(usize, Tally),
+// Why a line is not run.
+#[derive(Clone, Copy, Debug, PartialEq, Eq)]
+enum Stop {
     NoCoin,
     Refused,
 }
 
-fn measure(
-    words: &mut Words,
-    marks: &mut [u8; limits::MOST_OPERATIONS],
-    n: usize,
-    reset: bool,
-    a: usize,
-    coins: &[u8],
-    tally: Tally,
-    next: usize,
-) -> Step
-    requires { Room n coins.now words.old marks.old tally × (a < n) }
-    ensures { MeasureAs n (following reset) a coins.now words.old marks.old tally next result words.new marks.new }
-{
-    let at = tally.measured;
-    let used = tally.taken;
-    match shoot(words, n, reset, a, coins, used) {
-        Shot::Fixed(value) => {
-            marks[at] = mark(false, value);
-            Step::Next(next, tally::stepped_numbers(at, tally.random, used, false))
-        }
-        Shot::Random(value) => {
-            marks[at] = mark(true, value);
-            Step::Next(next, tally::stepped_numbers(at, tally.random, used, true))
-        }
-        Shot::NoCoin => Step::NoCoin,
-    }
+// The walk ended before the text, at this line.
+#[derive(Clone, Copy, Debug, PartialEq, Eq)]
+pub struct BrokenOff {
+    pub line: usize,
+}
+
+// A walk under way: the rows, the characters of the outcomes so far, and the tally.
+#[derive(Drop)]
+pub struct Walk {
+    pub rows: Packed,
+    pub marks: [u8; limits::MOST_OPERATIONS],
+    pub tally: Tally,
 }
 
 // The gate of this number.
-fn apply(words: &mut Words, code: usize)
+#[inline(always)]
+pub fn apply(words: &mut Words, code: usize)
     requires { Words words.old × Valid most_qubits (op_in code) × (name_in code ≡ 77 → ⊥) }
     ensures { Applies code words.old words.new }
 {
@@ -118,74 +99,70 @@ fn apply(words: &mut Words, code: usize)
     columns::one(words, name, a);
 }
 
-fn turn(
-    text: &[u8],
-    at: usize,
-    words: &mut Words,
-    marks: &mut [u8; limits::MOST_OPERATIONS],
-    n: usize,
-    coins: &[u8],
-    tally: Tally,
-) -> Step
-    requires { Room n coins.now words.old marks.old tally × (at ≤ length text.now) }
-    ensures { StepAs text.now at n coins.now words.old marks.old tally result words.new marks.new }
-{
-    let code = quick_lines::op_at(text, at, n);
-    if code == 0 {
-        return Step::Refused;
-    }
-    let next = at + quick_lines::code::length(code);
-    if quick_lines::code::name(code) == 77 {
-        let reset = quick_lines::code::resets(code);
-        let a = quick_lines::code::first(code);
-        return measure(words, marks, n, reset, a, coins, tally, next);
-    }
-    apply(words, code);
-    Step::Next(next, tally)
-}
-
-// How the walk over all lines ends: at the end of the text, or at a line that goes no further.
-#[derive(Drop)]
-pub enum Walked {
-    Done(Tally),
-    Stopped(usize),
-}
-
-pub fn walk(
-    text: &[u8],
-    body: usize,
-    words: &mut Words,
-    marks: &mut [u8; limits::MOST_OPERATIONS],
-    n: usize,
-    coins: &[u8],
-) -> Walked
-    requires { Walkable n words.old marks.old }
-    ensures { WalkAs text.now body n coins.now result words.new marks.new }
-{
-    let mut tally = Tally {
-        measured: 0,
-        random: 0,
-        taken: 0,
-    };
-    let mut at = body;
-    let mut line: usize = 2;
-    while at < text.len() {
-        if line == limits::MOST_OPERATIONS + 2 {
-            return Walked::Stopped(line);
-        }
-        match turn(text, at, words, marks, n, coins, tally) {
-            Step::Next(next, stepped) => {
-                at = next;
-                tally = stepped;
-                line += 1;
-            }
-            Step::NoCoin => {
-                return Walked::Stopped(line);
-            }
-            Step::Refused => {
-                return Walked::Stopped(line);
-            }
+impl Walk {
+    // Before the first line, with the start rows of n qubits.
+    pub fn start(n: usize) -> Self
+        requires { n ≤ most_qubits }
+        ensures { Walkable n result }
+    {
+        Walk {
+            rows: start_rows::start(n),
+            marks: [0; limits::MOST_OPERATIONS],
+            tally: Tally::NONE_YET,
         }
     }
-    Walked::Done(tally)
+
+    fn measure(&mut self, reset: bool, a: usize, coins: &[u8]) -> Option<()>
+        requires { Room coins.now self.old × (a < self.old.rows.qubits) }
+        ensures { MeasureAs (following reset) a coins.now self.old result self.new }
+    {
+        let used = self.tally.taken;
+        let outcome = shoot(&mut self.rows, reset, a, coins, used)?;
+        self.marks[self.tally.measured] = mark(outcome);
+        self.tally.step(outcome.random);
+        Some(())
+    }
+
+    // The line at this position; the position behind it.
+    fn turn(&mut self, text: &[u8], at: usize, coins: &[u8]) -> Result<usize, Stop>
+        requires { Room coins.now self.old × (at ≤ length text.now) }
+        ensures { StepAs text.now at coins.now self.old result self.new }
+    {
+        let code = quick_lines::op_at(text, at, self.rows.qubits);
+        if code == 0 {
+            return Err(Stop::Refused);
+        }
+        let next = at + quick_lines::code::length(code);
+        if quick_lines::code::name(code) == 77 {
+            let reset = quick_lines::code::resets(code);
+            let a = quick_lines::code::first(code);
+            self.measure(reset, a, coins).ok_or(Stop::NoCoin)?;
+        } else {
+            apply(&mut self.rows.words, code);
+        }
+        Ok(next)
+    }
+
+    // All lines from the first on.
+    pub fn walk(&mut self, text: &[u8], body: usize, coins: &[u8]) -> Result<(), BrokenOff>
+        requires { Walkable self.old.rows.qubits self.old }
+        ensures { WalkAs text.now body coins.now self.old.rows.qubits result self.new }
+    {
+        let mut at = body;
+        for line in 2..limits::MOST_OPERATIONS + 2 {
+            if text.len() <= at {
+                return Ok(());
+            }
+            match self.turn(text, at, coins) {
+                Ok(next) => at = next,
+                Err(_) => return Err(BrokenOff { line }),
+            }
+        }
+        if at < text.len() {
+            return Err(BrokenOff {
+                line: limits::MOST_OPERATIONS + 2,
+            });
+        }
+        Ok(())
+    }
 }

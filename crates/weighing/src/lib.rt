@@ -2,158 +2,91 @@
 // against its character, whose lowest bit serves as the coin. A line that is refused, or a fixed measurement that disagrees, stops the walk.
 #![tactic(auto)]
 
-ghost use Rattle.std.specs.Prelude.{◌≡◌, ◌≤◌, ◌<◌, length};
-ghost use Rattle.limits.specs.Limits.{most_qubits};
-ghost use Rattle.clifford.specs.Run.{Valid};
-ghost use Rattle.quick_lines.specs.Parts.Coded.{following, op_in, name_in, OpAt};
-ghost use Rattle.packing.specs.View.{Words, rows_of, Holds};
-ghost use Rattle.walking.specs.Parts.Walk.{Applies};
+ghost use Rattle.std.specs.Prelude.{◌≤◌, ◌<◌, length};
+ghost use Rattle.quick_lines.specs.Parts.Coded.{following};
 ghost use Rattle.weighing.specs.Parts.Heard.{HeardAs, PacedAs, Weighable, Fresh, WeighedAs};
 
-use packing::Words;
-use walking::Shot;
+use packing::Packed;
 
-// What a measurement comes to beside its character: it is fixed and agrees, it is random, or it goes no further.
-#[derive(Drop)]
-enum Heard {
-    Fixed,
-    Random,
-    Against,
-}
-
-fn hear(words: &mut Words, n: usize, reset: bool, a: usize, stated: &[u8], at: usize) -> Heard
-    requires { Holds n words.old × (n ≤ most_qubits) × (a < n) }
-    ensures { HeardAs n (following reset) a (rows_of n words.old) stated.now at result words.new }
+// A measurement beside its character: whether it is random, which agrees with any character, or fixed and agrees; none where it goes no further.
+fn hear(rows: &mut Packed, reset: bool, a: usize, stated: &[u8], at: usize) -> Option<bool>
+    requires { a < rows.old.qubits }
+    ensures { HeardAs (following reset) a rows.old stated.now at result rows.new }
 {
-    if stated.len() <= at {
-        return Heard::Against;
+    let value = *stated.get(at)? % 2 == 1;
+    let outcome = walking::shoot(rows, reset, a, stated, at)?;
+    if !outcome.random & (value ^ outcome.value) {
+        return None;
     }
-    let value = stated[at] % 2 == 1;
-    match walking::shoot(words, n, reset, a, stated, at) {
-        Shot::Fixed(outcome) => {
-            if value ^ outcome {
-                Heard::Against
-            } else {
-                Heard::Fixed
-            }
-        }
-        Shot::Random(_) => Heard::Random,
-        Shot::NoCoin => Heard::Against,
-    }
-}
-
-// The operation of a line, read as `quick_lines::op_at` reads it, and its gate, applied as the run applies it. Both stand here once more since the compiler makes
-// a function part of a loop where nothing else calls it: with one for both walks runs take up to a third longer.
-fn op_at(text: &[u8], at: usize, n: usize) -> usize
-    requires { (n ≤ most_qubits) × (at ≤ length text.now) }
-    ensures { OpAt text.now at n result }
-{
-    let found = quick_lines::usual::line_at(text, at, n);
-    if 0 < found {
-        return found;
-    }
-    quick_lines::other::line_at(text, at, n)
-}
-
-fn apply(words: &mut Words, code: usize)
-    requires { Words words.old × Valid most_qubits (op_in code) × (name_in code ≡ 77 → ⊥) }
-    ensures { Applies code words.old words.new }
-{
-    let name = quick_lines::code::name(code);
-    let a = quick_lines::code::first(code);
-    let b = quick_lines::code::second(code);
-    if (name == 1) | (name == 2) {
-        columns::two(words, name == 1, a, b);
-        return;
-    }
-    columns::one(words, name, a);
+    Some(outcome.random)
 }
 
 // How many measurements the lines so far have, and how many of them are random.
-#[derive(Clone, Copy)]
+#[derive(Clone, Copy, Debug, PartialEq, Eq)]
 pub struct Passed {
     pub measured: usize,
     pub random: usize,
 }
 
-// What a line comes to: the position behind it and the counts, or that the walk stops there.
-#[derive(Drop)]
-enum Paced {
-    Next(usize, Passed),
-    Stops,
-}
-
-fn pace(text: &[u8], at: usize, words: &mut Words, n: usize, stated: &[u8], passed: Passed) -> Paced
-    requires { Weighable n words.old passed × (at ≤ length text.now) }
-    ensures { PacedAs text.now at n stated.now words.old passed result words.new }
+// The line at this position: the position behind it and the counts with it, or none where the walk stops there.
+fn pace(text: &[u8], at: usize, rows: &mut Packed, stated: &[u8], passed: Passed) -> Option<(usize, Passed)>
+    requires { Weighable passed × (at ≤ length text.now) }
+    ensures { PacedAs text.now at stated.now rows.old passed result rows.new }
 {
-    let code = op_at(text, at, n);
+    let code = quick_lines::op_at(text, at, rows.qubits);
     if code == 0 {
-        return Paced::Stops;
+        return None;
     }
     let next = at + quick_lines::code::length(code);
     if quick_lines::code::name(code) == 77 {
         let reset = quick_lines::code::resets(code);
         let a = quick_lines::code::first(code);
-        let measured = passed.measured;
-        let random = passed.random;
-        return match hear(words, n, reset, a, stated, measured) {
-            Heard::Fixed => Paced::Next(
-                next,
-                Passed {
-                    measured: measured + 1,
-                    random,
-                },
-            ),
-            Heard::Random => Paced::Next(
-                next,
-                Passed {
-                    measured: measured + 1,
-                    random: random + 1,
-                },
-            ),
-            Heard::Against => Paced::Stops,
+        let random = hear(rows, reset, a, stated, passed.measured)?;
+        let more = Passed {
+            measured: passed.measured + 1,
+            random: passed.random + usize::from(random),
         };
+        return Some((next, more));
     }
-    apply(words, code);
-    Paced::Next(next, passed)
+    walking::apply(&mut rows.words, code);
+    Some((next, passed))
 }
 
-// How the walk over all lines ends: at the end of the text; or at a line, which begins at this position, behind so many operations and these counts.
-#[derive(Drop)]
-pub enum Weight {
-    Done(Passed),
-    Stopped {
-        at: usize,
-        done: usize,
-        passed: Passed,
-    },
+// The walk ended before the text: at a line that begins at this position, behind so many operations and these counts.
+#[derive(Clone, Copy, Debug, PartialEq, Eq)]
+pub struct Stopped {
+    pub at: usize,
+    pub done: usize,
+    pub passed: Passed,
 }
 
-pub fn weigh(text: &[u8], body: usize, words: &mut Words, n: usize, stated: &[u8]) -> Weight
-    requires { Fresh n words.old }
-    ensures { WeighedAs text.now body n stated.now result }
+pub fn weigh(text: &[u8], body: usize, rows: &mut Packed, stated: &[u8]) -> Result<Passed, Stopped>
+    requires { Fresh rows.old }
+    ensures { WeighedAs text.now body rows.old.qubits stated.now result }
 {
     let mut passed = Passed {
         measured: 0,
         random: 0,
     };
     let mut at = body;
-    let mut done: usize = 0;
-    while at < text.len() {
-        if done == limits::MOST_OPERATIONS {
-            return Weight::Stopped { at, done, passed };
+    for done in 0..limits::MOST_OPERATIONS {
+        if text.len() <= at {
+            return Ok(passed);
         }
-        match pace(text, at, words, n, stated, passed) {
-            Paced::Next(next, more) => {
+        match pace(text, at, rows, stated, passed) {
+            Some((next, more)) => {
                 at = next;
                 passed = more;
-                done += 1;
             }
-            Paced::Stops => {
-                return Weight::Stopped { at, done, passed };
-            }
+            None => return Err(Stopped { at, done, passed }),
         }
     }
-    Weight::Done(passed)
+    if at < text.len() {
+        return Err(Stopped {
+            at,
+            done: limits::MOST_OPERATIONS,
+            passed,
+        });
+    }
+    Ok(passed)
 }

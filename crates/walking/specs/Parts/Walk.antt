@@ -1,7 +1,7 @@
 -- What the parts of a walk over the operation lines promise one another: a measurement, one line, and all lines. Assumes nothing.
 use Rattle.std.specs.Prelude.{Bool, true, cond, List, [], ◌∷◌, map, ◌≡◌, ℕ, ◌≤◌, ◌<◌, length, take, drop}
-use Rattle.std.specs.Prelude.{None, Some}
-use Rattle.limits.specs.Limits.{most_qubits, most_operations}
+use Rattle.std.specs.Prelude.{Option, None, Some, Result, Ok, Err}
+use Rattle.limits.specs.Limits.{most_operations}
 use Rattle.answers.specs.Verdict.{Verdict, accepted, refused}
 use Rattle.clifford.specs.declared.One.TheVariants.{PauliX}
 use Rattle.clifford.specs.declared.Gate.{Gate}
@@ -10,23 +10,23 @@ use Rattle.clifford.specs.declared.After.{After}
 use Rattle.clifford.specs.declared.Op.{Op}
 use Rattle.clifford.specs.declared.Op.TheVariants.{Gate as apply, Measure as measure}
 use Rattle.clifford.specs.Tableau.{Rows, start, gated}
-use Rattle.clifford.specs.Measurement.{random_row, collapsed, fixed_value}
+use Rattle.clifford.specs.Measurement.{Outcome, random_row, collapsed, fixed_value}
 use Rattle.clifford.specs.Run.{State, begin, coin, afterwards, step, run}
 use Rattle.circuit.specs.Lines.{op_line}
 use Rattle.circuit.specs.Parts.Reading.{Stands}
 use Rattle.circuit.specs.Text.{all_below, apart, operations}
 use Rattle.quick_lines.specs.Parts.Coded.{op_in}
+use Rattle.packing.specs.declared.Packed.{Packed}
 use Rattle.packing.specs.View.{rows_of, Holds}
 use Rattle.columns.specs.Parts.Gated.{Gated}
 use Rattle.records.specs.Record.{mark}
-use Rattle.walking.specs.declared.Shot.{Shot}
-use Rattle.walking.specs.declared.Shot.TheVariants as shot
-use Rattle.walking.specs.declared.Step.{Step}
-use Rattle.walking.specs.declared.Step.TheVariants as steps
-use Rattle.walking.specs.declared.Walked.{Walked}
-use Rattle.walking.specs.declared.Walked.TheVariants as walked
+use Rattle.walking.specs.declared.Stop.{Stop}
+use Rattle.walking.specs.declared.Stop.TheVariants.{NoCoin, Refused}
+use Rattle.walking.specs.declared.BrokenOff.{BrokenOff}
+use Rattle.walking.specs.declared.Walk.{Walk}
 use Rattle.tally.specs.declared.Tally.{Tally}
 use Rattle.tally.specs.Tally.{tally_of}
+use Rattle.tally.specs.Parts.Stepping.{none_yet}
 
 -- X on a, where it is applied
 abbrev pub flipped : ℕ → Bool → Rows → Rows
@@ -54,10 +54,18 @@ pub record Dry (n a : ℕ) (t : Rows) (coins : List ℕ) : Type 0 where
   pub kind : random_row n a t ≡ Some row
   pub none_left : coins ≡ []
 
-abbrev pub ShotAs : ℕ → After → ℕ → Rows → List ℕ → Shot → Rows → Type 0
-ShotAs n f a t coins (shot.Fixed value) t' = Fixed n f a t value t'
-ShotAs n f a t coins (shot.Random value) t' = Random n f a t coins value t'
-ShotAs n f a t coins shot.NoCoin t' = Dry n a t coins
+abbrev pub ShotIs : ℕ → After → ℕ → Rows → List ℕ → Bool → Bool → Rows → Type 0
+ShotIs n f a t coins false value t' = Fixed n f a t value t'
+ShotIs n f a t coins true value t' = Random n f a t coins value t'
+
+abbrev pub ShotOf : ℕ → After → ℕ → Rows → List ℕ → Option Outcome → Rows → Type 0
+ShotOf n f a t coins None t' = Dry n a t coins
+ShotOf n f a t coins (Some o) t' = ShotIs n f a t coins o.random o.value t'
+
+-- what a measurement on packed rows comes to
+pub record ShotAs (f : After) (a : ℕ) (r : Packed) (coins : List ℕ) (o : Option Outcome) (r' : Packed) : Type 0 where
+  pub same : r'.qubits ≡ r.qubits
+  pub is : ShotOf r.qubits f a (rows_of r.qubits r.words) coins o (rows_of r.qubits r'.words)
 
 -- a state of the run as the walk holds it: its rows in words, its outcomes as characters, the coins that are left behind those taken, and the tally
 pub record View (n : ℕ) (coins : List ℕ) (e : State) (words marks : List ℕ) (t : Tally) : Type 0 where
@@ -97,27 +105,24 @@ pub record Stops (text : List ℕ) (at n : ℕ) (coins words marks : List ℕ) (
   pub stands : Stands op_line text at op next
   pub stops : (line : ℕ) (e : State) → View n coins e words marks t → step n line op e ≡ refused 7 line
 
-abbrev pub StepAs : List ℕ → ℕ → ℕ → List ℕ → List ℕ → List ℕ → Tally → Step → List ℕ → List ℕ → Type 0
-StepAs text at n coins words marks t (steps.Next next t') words' marks' = Goes text at n coins words marks t next words' marks' t'
-StepAs text at n coins words marks t steps.NoCoin words' marks' = Stops text at n coins words marks t
-StepAs text at n coins words marks t steps.Refused words' marks' = at < length text → (room line : ℕ) (ops : List Op) → operations n room line (drop at text) ≡ accepted ops → ⊥
+abbrev pub StepAs : List ℕ → ℕ → List ℕ → Walk → Result ℕ Stop → Walk → Type 0
+StepAs text at coins w (Ok next) w' = (w'.rows.qubits ≡ w.rows.qubits) × Goes text at w.rows.qubits coins w.rows.words w.marks w.tally next w'.rows.words w'.marks w'.tally
+StepAs text at coins w (Err NoCoin) w' = Stops text at w.rows.qubits coins w.rows.words w.marks w.tally
+StepAs text at coins w (Err Refused) w' = at < length text → (room line : ℕ) (ops : List Op) → operations w.rows.qubits room line (drop at text) ≡ accepted ops → ⊥
 
--- nothing is set beyond n, and the counters have room for one more
-pub record Room (n : ℕ) (coins words marks : List ℕ) (t : Tally) : Type 0 where
-  pub qubits : n ≤ most_qubits
-  pub holds : Holds n words
-  pub marks_room : length marks ≡ most_operations
-  pub measured : t.measured < most_operations
-  pub random : t.random < most_operations
-  pub taken : t.taken < most_operations
-  pub enough : t.taken ≤ length coins
+-- the counters have room for one more
+pub record Room (coins : List ℕ) (w : Walk) : Type 0 where
+  pub measured : w.tally.measured < most_operations
+  pub random : w.tally.random < most_operations
+  pub taken : w.tally.taken < most_operations
+  pub enough : w.tally.taken ≤ length coins
 
--- the measurement of a, with the position behind its line handed on
-abbrev pub MeasureAs : ℕ → After → ℕ → List ℕ → List ℕ → List ℕ → Tally → ℕ → Step → List ℕ → List ℕ → Type 0
-MeasureAs n f a coins words marks t next (steps.Next behind t') words' marks' =
-    (behind ≡ next) × ((line : ℕ) (e : State) → View n coins e words marks t → Went n coins (step n line (measure f a) e) words' marks' t')
-MeasureAs n f a coins words marks t next steps.NoCoin words' marks' = (line : ℕ) (e : State) → View n coins e words marks t → step n line (measure f a) e ≡ refused 7 line
-MeasureAs n f a coins words marks t next steps.Refused words' marks' = ⊥
+-- the measurement of a
+abbrev pub MeasureAs : After → ℕ → List ℕ → Walk → Option (Unit {0}) → Walk → Type 0
+MeasureAs f a coins w (Some done) w' =
+    (w'.rows.qubits ≡ w.rows.qubits)
+    × ((line : ℕ) (e : State) → View w.rows.qubits coins e w.rows.words w.marks w.tally → Went w.rows.qubits coins (step w.rows.qubits line (measure f a) e) w'.rows.words w'.marks w'.tally)
+MeasureAs f a coins w None w' = (line : ℕ) (e : State) → View w.rows.qubits coins e w.rows.words w.marks w.tally → step w.rows.qubits line (measure f a) e ≡ refused 7 line
 
 abbrev pub or_none : Verdict (List Op) → List Op
 or_none (accepted ops) = ops
@@ -138,13 +143,12 @@ pub record Ended (text : List ℕ) (body n : ℕ) (coins words marks : List ℕ)
 abbrev pub Stuck : List ℕ → ℕ → ℕ → List ℕ → ℕ → Type 0
 Stuck text body n coins line = operations n most_operations 2 (drop body text) ≡ accepted (lines_of n body text) → run n 2 (lines_of n body text) (begin n coins) ≡ refused 7 line
 
-abbrev pub WalkAs : List ℕ → ℕ → ℕ → List ℕ → Walked → List ℕ → List ℕ → Type 0
-WalkAs text body n coins (walked.Done t) words marks = Ended text body n coins words marks t
-WalkAs text body n coins (walked.Stopped line) words marks = Stuck text body n coins line
+abbrev pub WalkAs : List ℕ → ℕ → List ℕ → ℕ → Result (Unit {0}) BrokenOff → Walk → Type 0
+WalkAs text body coins n (Ok done) w = Ended text body n coins w.rows.words w.marks w.tally
+WalkAs text body coins n (Err b) w = Stuck text body n coins b.line
 
--- where the walk may begin: with the start rows
-pub record Walkable (n : ℕ) (words marks : List ℕ) : Type 0 where
-  pub qubits : n ≤ most_qubits
-  pub holds : Holds n words
-  pub room : length marks ≡ most_operations
-  pub from_start : start n ≡ rows_of n words
+-- where the walk may begin: with the start rows of n qubits, and nothing counted
+pub record Walkable (n : ℕ) (w : Walk) : Type 0 where
+  pub same : w.rows.qubits ≡ n
+  pub from_start : rows_of n w.rows.words ≡ start n
+  pub nothing : w.tally ≡ none_yet

@@ -1,7 +1,7 @@
 -- What the parts of a walk with a stated readout promise one another: a measurement, one line, and all lines. The values stated are the characters' lowest bits.
 -- Assumes nothing.
-use Rattle.std.specs.Prelude.{true, List, ◌∷◌, ◌++◌, map, ◌≡◌, ℕ, suc, ◌+◌, ◌-◌, ◌≤◌, ◌<◌, length, drop}
-use Rattle.limits.specs.Limits.{most_qubits, most_operations}
+use Rattle.std.specs.Prelude.{Bool, Option, None, Some, Result, Ok, Err, true, List, ◌∷◌, ◌++◌, map, ◌≡◌, ℕ, suc, ◌+◌, ◌-◌, ◌≤◌, ◌<◌, length, drop}
+use Rattle.limits.specs.Limits.{most_operations}
 use Rattle.answers.specs.Verdict.{accepted, then}
 use Rattle.clifford.specs.declared.After.{After}
 use Rattle.clifford.specs.declared.Op.{Op}
@@ -11,16 +11,13 @@ use Rattle.clifford.specs.Run.{coin}
 use Rattle.circuit.specs.Lines.{op_line}
 use Rattle.circuit.specs.Parts.Reading.{Stands}
 use Rattle.circuit.specs.Text.{all_below, apart, operations, measures, count_measured}
+use Rattle.packing.specs.declared.Packed.{Packed}
 use Rattle.packing.specs.View.{rows_of, Holds}
+use Rattle.tally.specs.Tally.{one_if}
 use Rattle.walking.specs.Parts.Walk.{lines_of}
 use Rattle.readouts.specs.Readouts.{possible, impossible, weigh}
-use Rattle.weighing.specs.declared.Heard.{Heard}
-use Rattle.weighing.specs.declared.Heard.TheVariants as heard
 use Rattle.weighing.specs.declared.Passed.{Passed}
-use Rattle.weighing.specs.declared.Paced.{Paced}
-use Rattle.weighing.specs.declared.Paced.TheVariants as paces
-use Rattle.weighing.specs.declared.Weight.{Weight}
-use Rattle.weighing.specs.declared.Weight.TheVariants as weight
+use Rattle.weighing.specs.declared.Stopped.{Stopped}
 
 -- a measurement is passed, and counts as so many random ones
 pub record Hears (n : ℕ) (f : After) (a : ℕ) (t : Rows) (stated : List ℕ) (at more : ℕ) (words' : List ℕ) : Type 0 where
@@ -28,15 +25,18 @@ pub record Hears (n : ℕ) (f : After) (a : ℕ) (t : Rows) (stated : List ℕ) 
   pub same : (line : ℕ) (ops : List Op) (k : ℕ)
       → weigh n line (measure f a ∷ ops) t (drop at (map coin stated)) k ≡ weigh n (suc line) ops (rows_of n words') (drop (at + 1) (map coin stated)) (k + more)
 
-abbrev pub HeardAs : ℕ → After → ℕ → Rows → List ℕ → ℕ → Heard → List ℕ → Type 0
-HeardAs n f a t stated at heard.Fixed words' = Hears n f a t stated at 0 words'
-HeardAs n f a t stated at heard.Random words' = Hears n f a t stated at 1 words'
-HeardAs n f a t stated at heard.Against words' = (line : ℕ) (ops : List Op) (k : ℕ) → weigh n line (measure f a ∷ ops) t (drop at (map coin stated)) k ≡ impossible line
+-- whether it is random, or that it goes no further
+abbrev pub HeardOf : ℕ → After → ℕ → Rows → List ℕ → ℕ → Option Bool → List ℕ → Type 0
+HeardOf n f a t stated at (Some random) words' = Hears n f a t stated at (one_if random) words'
+HeardOf n f a t stated at None words' = (line : ℕ) (ops : List Op) (k : ℕ) → weigh n line (measure f a ∷ ops) t (drop at (map coin stated)) k ≡ impossible line
 
--- nothing is set beyond n, and the counts have room for one more
-pub record Weighable (n : ℕ) (words : List ℕ) (p : Passed) : Type 0 where
-  pub qubits : n ≤ most_qubits
-  pub holds : Holds n words
+-- of the same number of qubits
+pub record HeardAs (f : After) (a : ℕ) (r : Packed) (stated : List ℕ) (at : ℕ) (o : Option Bool) (r' : Packed) : Type 0 where
+  pub same : r'.qubits ≡ r.qubits
+  pub is : HeardOf r.qubits f a (rows_of r.qubits r.words) stated at o r'.words
+
+-- the counts have room for one more
+pub record Weighable (p : Passed) : Type 0 where
   pub measured : p.measured < most_operations
   pub random : p.random < most_operations
 
@@ -58,15 +58,18 @@ abbrev pub Halts : List ℕ → ℕ → ℕ → List ℕ → List ℕ → Passed
 Halts text at n stated words p = at < length text → (room line : ℕ) (ops : List Op) → operations n room line (drop at text) ≡ accepted ops
     → weigh n line ops (rows_of n words) (drop p.measured (map coin stated)) p.random ≡ impossible line
 
-abbrev pub PacedAs : List ℕ → ℕ → ℕ → List ℕ → List ℕ → Passed → Paced → List ℕ → Type 0
-PacedAs text at n stated words p (paces.Next next p') words' = Paces text at n stated words p next words' p'
-PacedAs text at n stated words p paces.Stops words' = Halts text at n stated words p
+abbrev pub PacedOf : List ℕ → ℕ → ℕ → List ℕ → List ℕ → Passed → Option (ℕ × Passed) → List ℕ → Type 0
+PacedOf text at n stated words p (Some (next, p')) words' = Paces text at n stated words p next words' p'
+PacedOf text at n stated words p None words' = Halts text at n stated words p
+
+-- of the same number of qubits
+pub record PacedAs (text : List ℕ) (at : ℕ) (stated : List ℕ) (r : Packed) (p : Passed) (o : Option (ℕ × Passed)) (r' : Packed) : Type 0 where
+  pub same : r'.qubits ≡ r.qubits
+  pub is : PacedOf text at r.qubits stated r.words p o r'.words
 
 -- where the walk may begin: with the start rows
-pub record Fresh (n : ℕ) (words : List ℕ) : Type 0 where
-  pub qubits : n ≤ most_qubits
-  pub holds : Holds n words
-  pub from_start : start n ≡ rows_of n words
+abbrev pub Fresh : Packed → Type 0
+Fresh r = rows_of r.qubits r.words ≡ start r.qubits
 
 -- the walk came to the end of the text, which is thereby accepted, and its readout possible
 pub record WeighsAll (text : List ℕ) (body n : ℕ) (stated : List ℕ) (p : Passed) : Type 0 where
@@ -84,6 +87,6 @@ pub record WeighsPart (text : List ℕ) (body n : ℕ) (stated : List ℕ) (at d
   pub against : (ops : List Op) → operations n (most_operations - done) (done + 2) (drop at text) ≡ accepted ops
       → weigh n 2 (before ++ ops) (start n) (map coin stated) 0 ≡ impossible (done + 2)
 
-abbrev pub WeighedAs : List ℕ → ℕ → ℕ → List ℕ → Weight → Type 0
-WeighedAs text body n stated (weight.Done p) = WeighsAll text body n stated p
-WeighedAs text body n stated (weight.Stopped at done p) = WeighsPart text body n stated at done p
+abbrev pub WeighedAs : List ℕ → ℕ → ℕ → List ℕ → Result Passed Stopped → Type 0
+WeighedAs text body n stated (Ok p) = WeighsAll text body n stated p
+WeighedAs text body n stated (Err s) = WeighsPart text body n stated s.at s.done s.passed
