@@ -1,11 +1,14 @@
 -- The run of a circuit text with lent coins and a record buffer: document 01, order of refusals 1 to 6, then 8, then 7. Assumes nothing.
-use Rattle.std.specs.Prelude.{List, [], ◌∷◌, ◌≡◌, ℕ, leb, length, drop}
+use Rattle.std.specs.Prelude.{List, ◌≡◌, ℕ, leb, length, drop, Result}
 use Rattle.answers.specs.Verdict.{Verdict, accepted, refused, then, unless, over}
 use Rattle.clifford.specs.Run.{State, begin, run}
 use Rattle.circuit.specs.Text.{Circuit, meaning, count_measured}
 use Rattle.records.specs.Record.{record_of, record_length}
 use Rattle.tally.specs.declared.Tally.{Tally}
 use Rattle.tally.specs.Tally.{tally_of}
+use Rattle.answers.specs.declared.Refusal.{Refusal}
+use Rattle.answers.specs.Refusals.{told}
+use Rattle.run.specs.declared.Ran.{Ran}
 
 -- what an accepted run answers: the record, and the tally
 pub record Sheet : Type 0 where
@@ -25,10 +28,9 @@ unfoldable pub run_of : List ℕ → List ℕ → ℕ → Verdict Sheet
 run_of text coins room =
     then (meaning text) (λ c. unless (leb (record_length c.qubits (count_measured c.ops)) room) 8 0 (run_circuit c coins))
 
--- number, place, the record's length, and the three counters: where a number is answered, a refusal gives zero
-abbrev pub numbers : Verdict Sheet → List ℕ
-numbers (accepted s) = 0 ∷ 0 ∷ length s.bytes ∷ s.tally.measured ∷ s.tally.random ∷ s.tally.taken ∷ []
-numbers (refused number place) = number ∷ place ∷ 0 ∷ 0 ∷ 0 ∷ 0 ∷ []
+-- what is answered of a sheet: the record's length, and the tally
+abbrev pub ran : Sheet → Ran
+ran s = record { size = length s.bytes; tally = s.tally }
 
 -- the unused rest: the lent coins without their first so many as were taken; when refused, all of them
 abbrev pub rest_of : Verdict Sheet → List ℕ → List ℕ
@@ -41,7 +43,7 @@ buffer_after (accepted s) old = over s.bytes old
 buffer_after (refused number place) old = old
 
 -- what a run promises of its answer, of the coins it hands back and of the lent buffer
-pub record Runs (text coins old answer rest new : List ℕ) : Type 0 where
-  pub answers : answer ≡ numbers (run_of text coins (length old))
+pub record Runs (text coins old : List ℕ) (answer : Result Ran Refusal) (rest new : List ℕ) : Type 0 where
+  pub answers : told answer ≡ then (run_of text coins (length old)) (λ s. accepted (ran s))
   pub hands_back : rest ≡ rest_of (run_of text coins (length old)) coins
   pub buffer : new ≡ buffer_after (run_of text coins (length old)) old

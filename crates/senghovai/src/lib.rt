@@ -2,7 +2,7 @@
 // call writes all places of `answer`. include/senghovai.h says the same in C.
 #![tactic(auto)]
 
-ghost use Rattle.std.specs.Prelude.{◌≡◌};
+ghost use Rattle.std.specs.Prelude.{◌≡◌, ◌∷◌, ◌-◌, ◌<◌, replicate};
 ghost use Rattle.archive.specs.Copy.{copy_of};
 ghost use Rattle.archive.specs.Same.{same_of};
 ghost use Rattle.checking.specs.Check.{check_of};
@@ -10,26 +10,33 @@ ghost use Rattle.probability.specs.Probability.{probability_of};
 ghost use Rattle.product.specs.Product.{product_of};
 ghost use Rattle.records.specs.Reading.{read_of};
 ghost use Rattle.senghovai.specs.Exports.{verdict_number, chance_places, check_places, ExportsRun, read_places, ExportsWritten, same_number, same_places, write_places};
-ghost use Rattle.answers.specs.Refusals.{told_written};
+ghost use Rattle.answers.specs.Refusals.{number_of, place_of, told};
 
-use answers::Written;
-use archive::Same;
-use checking::Checked;
+use answers::Refusal;
+use archive::Unread;
 use probability::Chance;
+
+// A refusal: its place in front of the answer, and zero behind it.
+fn refuse<const N: usize>(r: Refusal, answer: &mut [u64; N]) -> u64
+    requires { 0 < N }
+    ensures number { result ≡ number_of r }
+    ensures places { answer.new ≡ place_of r ∷ replicate (N - 1) 0 }
+{
+    *answer = [0; N];
+    answer[0] = r.place() as u64;
+    r.number()
+}
 
 #[unsafe(no_mangle)]
 pub extern "C" fn senghovai_check(circuit: &[u8], answer: &mut [u64; 3]) -> u64
     ensures { (result ≡ verdict_number (check_of circuit.now)) × (answer.new ≡ check_places (check_of circuit.now)) }
 {
     match library::check(circuit) {
-        Checked::Circuit { qubits, operations } => {
-            *answer = [0, qubits as u64, operations as u64];
+        Ok(size) => {
+            *answer = [0, size.qubits as u64, size.operations as u64];
             0
         }
-        Checked::Refused(r) => {
-            *answer = [answers::place(r) as u64, 0, 0];
-            answers::number(r)
-        }
+        Err(r) => refuse(r, answer),
     }
 }
 
@@ -42,17 +49,26 @@ pub extern "C" fn senghovai_run(
 ) -> u64
     ensures { ExportsRun circuit.now coins.now sheet.old result answer.new sheet.new }
 {
-    let mut told = [0u64; 6];
-    let rest = library::run(circuit, coins, sheet, &mut told);
-    *answer = [
-        told[1],
-        told[2],
-        rest.len() as u64,
-        told[3],
-        told[4],
-        told[5],
-    ];
-    told[0]
+    let mut ran = Err(Refusal::NoRoom);
+    let rest = library::run(circuit, coins, sheet, &mut ran);
+    let left = rest.len() as u64;
+    match ran {
+        Ok(ran) => {
+            *answer = [
+                0,
+                ran.size as u64,
+                left,
+                ran.tally.measured as u64,
+                ran.tally.random as u64,
+                ran.tally.taken as u64,
+            ];
+            0
+        }
+        Err(r) => {
+            *answer = [r.place() as u64, 0, left, 0, 0, 0];
+            r.number()
+        }
+    }
 }
 
 #[unsafe(no_mangle)]
@@ -60,30 +76,32 @@ pub extern "C" fn senghovai_read(bytes: &[u8], answer: &mut [u64; 5]) -> u64
     ensures { (result ≡ verdict_number (read_of bytes.now)) × (answer.new ≡ read_places bytes.now (read_of bytes.now)) }
 {
     let mut words = [0u64; packing::WORDS];
-    let mut four = [0u64; 4];
-    let outcomes = library::read(bytes, &mut words, &mut four);
-    if four[0] != 0 {
-        *answer = [four[1], 0, 0, 0, 0];
-        return four[0];
+    match library::read(bytes, &mut words) {
+        Ok(record) => {
+            let start = bytes.len() - record.size;
+            *answer = [
+                0,
+                record.size as u64,
+                record.qubits as u64,
+                start as u64,
+                record.outcomes.len() as u64,
+            ];
+            0
+        }
+        Err(r) => refuse(r, answer),
     }
-    let start = bytes.len() as u64 - four[2];
-    *answer = [0, four[2], four[3], start, outcomes.len() as u64];
-    0
 }
 
 // Place and length of a function that writes bytes.
-fn tell(w: Written, answer: &mut [u64; 2]) -> u64
-    ensures { (result ≡ verdict_number (told_written w)) × (answer.new ≡ write_places (told_written w)) }
+fn tell(written: Result<usize, Refusal>, answer: &mut [u64; 2]) -> u64
+    ensures { (result ≡ verdict_number (told written)) × (answer.new ≡ write_places (told written)) }
 {
-    match w {
-        Written::Bytes(count) => {
+    match written {
+        Ok(count) => {
             *answer = [0, count as u64];
             0
         }
-        Written::Refused(r) => {
-            *answer = [answers::place(r) as u64, 0];
-            answers::number(r)
-        }
+        Err(r) => refuse(r, answer),
     }
 }
 
@@ -91,8 +109,7 @@ fn tell(w: Written, answer: &mut [u64; 2]) -> u64
 pub extern "C" fn senghovai_copy(bytes: &[u8], out: &mut [u8], answer: &mut [u64; 2]) -> u64
     ensures { ExportsWritten (copy_of bytes.now) out.old result answer.new out.new }
 {
-    let w = library::copy(bytes, out);
-    tell(w, answer)
+    tell(library::copy(bytes, out), answer)
 }
 
 #[unsafe(no_mangle)]
@@ -104,8 +121,7 @@ pub extern "C" fn senghovai_product(
 ) -> u64
     ensures { ExportsWritten (product_of first.now second.now) out.old result answer.new out.new }
 {
-    let w = library::product(first, second, out);
-    tell(w, answer)
+    tell(library::product(first, second, out), answer)
 }
 
 #[unsafe(no_mangle)]
@@ -113,21 +129,17 @@ pub extern "C" fn senghovai_same(first: &[u8], second: &[u8], answer: &mut [u64;
     ensures { (result ≡ same_number (same_of first.now second.now)) × (answer.new ≡ same_places (same_of first.now second.now)) }
 {
     match library::same_state(first, second) {
-        Same::Equal => {
-            *answer = [0, 0, 1];
+        Ok(same) => {
+            *answer = [0, 0, u64::from(same)];
             0
         }
-        Same::Different => {
-            *answer = [0, 0, 0];
-            0
+        Err(Unread::First(r)) => {
+            *answer = [1, r.place() as u64, 0];
+            r.number()
         }
-        Same::First(r) => {
-            *answer = [1, answers::place(r) as u64, 0];
-            answers::number(r)
-        }
-        Same::Second(r) => {
-            *answer = [2, answers::place(r) as u64, 0];
-            answers::number(r)
+        Err(Unread::Second(r)) => {
+            *answer = [2, r.place() as u64, 0];
+            r.number()
         }
     }
 }
@@ -137,17 +149,14 @@ pub extern "C" fn senghovai_probability(circuit: &[u8], stated: &[u8], answer: &
     ensures { (result ≡ verdict_number (probability_of circuit.now stated.now)) × (answer.new ≡ chance_places (probability_of circuit.now stated.now)) }
 {
     match library::probability(circuit, stated) {
-        Chance::Possible(l) => {
-            *answer = [0, 1, l.k, half::bits(l)];
+        Ok(Chance::Possible(l)) => {
+            *answer = [0, 1, l.k, l.bits()];
             0
         }
-        Chance::Impossible(line) => {
+        Ok(Chance::Impossible(line)) => {
             *answer = [0, 0, line as u64, 0];
             0
         }
-        Chance::Refused(r) => {
-            *answer = [answers::place(r) as u64, 0, 0, 0];
-            answers::number(r)
-        }
+        Err(r) => refuse(r, answer),
     }
 }

@@ -1,11 +1,11 @@
 -- What the parts of a run promise one another behind the walk: why it stopped, or the sheet. Assumes nothing.
-use Rattle.std.specs.Prelude.{List, ◌≡◌, ℕ, ◌≤◌, leb, length}
+use Rattle.std.specs.Prelude.{List, ◌≡◌, ℕ, ◌≤◌, leb, length, Result, Ok, Err}
 use Rattle.answers.specs.Refusals.{number_of, place_of}
 use Rattle.answers.specs.Verdict.{Verdict, accepted, refused, then, unless, over}
 use Rattle.circuit.specs.Text.{meaning, count_measured}
 use Rattle.records.specs.Record.{record_length}
+use Rattle.answers.specs.declared.Refusal.{Refusal}
 use Rattle.run.specs.declared.Ran.{Ran}
-use Rattle.run.specs.declared.Ran.TheVariants as ran
 use Rattle.tally.specs.declared.Tally.{Tally}
 use Rattle.run.specs.Run.{Sheet, run_of}
 
@@ -22,6 +22,6 @@ pub record Sheeted (text coins old : List ℕ) (size : ℕ) (t : Tally) (new : L
   pub enough : t.taken ≤ length coins
   pub buffer : new ≡ over sheet.bytes old
 
-abbrev pub RanAs : List ℕ → List ℕ → List ℕ → Ran → List ℕ → Type 0
-RanAs text coins old (ran.Sheet size t) new = Sheeted text coins old size t new
-RanAs text coins old (ran.Refused r) new = (run_of text coins (length old) ≡ refused (number_of r) (place_of r)) × (new ≡ old)
+abbrev pub RanAs : List ℕ → List ℕ → List ℕ → Result Ran Refusal → List ℕ → Type 0
+RanAs text coins old (Ok r) new = Sheeted text coins old r.size r.tally new
+RanAs text coins old (Err r) new = (run_of text coins (length old) ≡ refused (number_of r) (place_of r)) × (new ≡ old)

@@ -10,7 +10,8 @@ use Rattle.clifford.specs.declared.After.{After}
 use Rattle.clifford.specs.declared.Op.{Op}
 use Rattle.clifford.specs.declared.Op.TheVariants.{Gate as apply, Measure as measure}
 use Rattle.clifford.specs.Tableau.{Rows, start, gated}
-use Rattle.clifford.specs.Measurement.{Outcome, random_row, collapsed, fixed_value}
+use Rattle.clifford.specs.declared.Outcome.{Outcome}
+use Rattle.clifford.specs.Measurement.{random_row, collapsed, fixed_value}
 use Rattle.clifford.specs.Run.{State, begin, coin, afterwards, step, run}
 use Rattle.circuit.specs.Lines.{op_line}
 use Rattle.circuit.specs.Parts.Reading.{Stands}
