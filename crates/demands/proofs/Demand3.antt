@@ -19,8 +19,8 @@ use Rattle.records.specs.Reading.{is_mark}
 use Rattle.records.proofs.Outcomes.{mark_fits, mark_back}
 use Rattle.records.proofs.RowTexts.{sign_fits}
 use Rattle.run.proofs.Numbered.{run_numbered}
-use Rattle.run.specs.Run.{Sheet, run_of, numbers, rest_of, buffer_after}
-use Rattle.demands.specs.Calls.{Call, number_told, size_told, measured_told, written}
+use Rattle.run.specs.Run.{Sheet, run_of, answered, numbers, rest_of, buffer_after}
+use Rattle.demands.specs.Calls.{Call, told_numbers, number_told, size_told, measured_told, written}
 use Rattle.demands.specs.Alike.{sign_place, SameKind, RecordsAlike, Leaves, nothing, two_records, xor3, is_minus, byte_of_three, Fourth}
 use Rattle.demands.proofs.Bytes.{OutcomesAt, SignsAt, PlaceAlike, place_alike}
 use Rattle.clifford.proofs.Alike.{one_length, two_alike}
@@ -117,10 +117,10 @@ module _ (text : List ℕ) (a b c d : Sheet) (m : SheetsAlike text a b c d) wher
   sheets_fourth : (k : ℕ) → get_or d.bytes k 0 ≡ byte_of_three n a.tally.measured k (get_or a.bytes k 0) (get_or b.bytes k 0) (get_or c.bytes k 0)
   sheets_fourth k = fourth_byte n a.tally.measured k _ _ _ _ (places k)
 
-  numbers_b : numbers (accepted b) ≡ numbers (accepted a)
+  numbers_b : numbers (answered (accepted b)) ≡ numbers (answered (accepted a))
   numbers_b = ap₂ (λ l t. 0 ∷ 0 ∷ l ∷ t.measured ∷ t.random ∷ t.taken ∷ []) lengths_b (ap (λ (s : Sheet). s.tally) m.b_is)
 
-  numbers_d : numbers (accepted d) ≡ numbers (accepted a)
+  numbers_d : numbers (answered (accepted d)) ≡ numbers (answered (accepted a))
   numbers_d = ap₂ (λ l t. 0 ∷ 0 ∷ l ∷ t.measured ∷ t.random ∷ t.taken ∷ []) lengths_d (ap (λ (s : Sheet). s.tally) m.d_is)
 
 -- ---- calls
@@ -137,7 +137,7 @@ one_fate text (accepted_alike k) = (refl, refl)
 sheets_of : (text : List ℕ) {a b c d : Sheet} → RunsAlike text (accepted a) (accepted b) (accepted c) (accepted d) → SheetsAlike text a b c d
 sheets_of text (accepted_alike k) = k
 
-one_refusal : (text : List ℕ) {m p l q : ℕ} {r s : Verdict Sheet} → RunsAlike text (refused m p) (refused l q) r s → numbers (refused l q) ≡ numbers (refused m p)
+one_refusal : (text : List ℕ) {m p l q : ℕ} {r s : Verdict Sheet} → RunsAlike text (refused m p) (refused l q) r s → numbers (answered (refused l q)) ≡ numbers (answered (refused m p))
 one_refusal text refused_alike = refl
 
 -- what the promise says of a call, where its run is known and its buffer as long as another
@@ -145,8 +145,8 @@ module _ (text : List ℕ) (p : Call text) (room : ℕ) (l : length p.old ≡ ro
   known : run_of text p.coins (length p.old) ≡ v
   known = ap (run_of text p.coins) l ∙ e
 
-  answer_known : p.answer ≡ numbers v
-  answer_known = p.keeps.answers ∙ ap numbers known
+  answer_known : told_numbers p ≡ numbers (answered v)
+  answer_known = ap numbers (p.keeps.answers ∙ ap answered known)
 
   rest_known : p.rest ≡ rest_of v p.coins
   rest_known = p.keeps.hands_back ∙ ap (λ w. rest_of w p.coins) known
@@ -162,16 +162,16 @@ back_is : (bytes old new : List ℕ) (size : ℕ) → size ≡ length bytes → 
 back_is bytes old new size z e = ap₂ drop z e ∙ drop_at bytes (drop (length bytes) old) (length bytes) refl ∙ ap (λ (k : ℕ). drop k old) (sym z)
 
 -- first part: two coin lists of equal length, with record buffers of equal length
-pub demand_3_two : (text : List ℕ) (p q : Call text) → length q.coins ≡ length p.coins → length q.old ≡ length p.old → (q.answer ≡ p.answer) × Leaves text p q
+pub demand_3_two : (text : List ℕ) (p q : Call text) → length q.coins ≡ length p.coins → length q.old ≡ length p.old → (told_numbers q ≡ told_numbers p) × Leaves text p q
 demand_3_two text p q l k =
     go (run_of text p.coins (length p.old)) (run_of text q.coins (length p.old)) refl refl (runs_alike text (length p.old) (two_alike p.coins q.coins l))
   where
     both : (s t : Sheet) → run_of text p.coins (length p.old) ≡ accepted s → run_of text q.coins (length p.old) ≡ accepted t → SheetsAlike text s t s t
-        → (q.answer ≡ p.answer) × Leaves text p q
+        → (told_numbers q ≡ told_numbers p) × Leaves text p q
     both s t e f m =
         let ap-known = answer_known text p (length p.old) refl (accepted s) e in
         let aq-known = answer_known text q (length p.old) k (accepted t) f in
-        let same : q.answer ≡ p.answer = aq-known ∙ numbers_b text s t s t m ∙ sym ap-known in
+        let same : told_numbers q ≡ told_numbers p = aq-known ∙ numbers_b text s t s t m ∙ sym ap-known in
         let zp : size_told p ≡ length s.bytes = ap (λ a. get_or a 2 0) ap-known in
         let zq : size_told q ≡ length t.bytes = ap (λ a. get_or a 2 0) aq-known in
         let np = new_known text p (length p.old) refl (accepted s) e in
@@ -193,7 +193,7 @@ demand_3_two text p q l k =
         let h = rw e at (run_numbered text p.coins (length p.old)) in
         omega (arith, h, z, ap (λ a. get_or a 0 0) (answer_known text p (length p.old) refl (refused number place) e))
 
-    go : (v w : Verdict Sheet) → run_of text p.coins (length p.old) ≡ v → run_of text q.coins (length p.old) ≡ w → RunsAlike text v w v w → (q.answer ≡ p.answer) × Leaves text p q
+    go : (v w : Verdict Sheet) → run_of text p.coins (length p.old) ≡ v → run_of text q.coins (length p.old) ≡ w → RunsAlike text v w v w → (told_numbers q ≡ told_numbers p) × Leaves text p q
     go (accepted s) (accepted t) e f m = both s t e f (sheets_of text m)
     go (accepted s) (refused number place) e f m = absurd (true≢false (sym (one_fate text m).0))
     go (refused number place) (accepted t) e f m = absurd (true≢false (one_fate text m).0)
@@ -238,7 +238,7 @@ demand_3_three text p q r s lq lr es kq kr ks zp zq zr = go (run_of text s.coins
     go (accepted d) f m =
         let k = sheets_of text m in
         let as-known = answer_known text s (length p.old) ks (accepted d) f in
-        let same : s.answer ≡ p.answer = as-known ∙ numbers_d text cp.sheet cq.sheet cr.sheet d k ∙ sym cp.answer in
+        let same : told_numbers s ≡ told_numbers p = as-known ∙ numbers_d text cp.sheet cq.sheet cr.sheet d k ∙ sym cp.answer in
         let zs : size_told s ≡ length d.bytes = ap (λ a. get_or a 2 0) as-known in
         let ws : written s ≡ d.bytes = front_is d.bytes s.old s.new (size_told s) zs (new_known text s (length p.old) ks (accepted d) f) in
         let counts : measured_told p ≡ cp.sheet.tally.measured = ap (λ a. get_or a 3 0) cp.answer in

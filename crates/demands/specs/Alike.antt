@@ -8,7 +8,7 @@ use Rattle.pauli.specs.Texts.{sign_byte, is_sign}
 use Rattle.circuit.specs.Text.{Circuit, meaning}
 use Rattle.records.specs.Record.{mark_of, outcome_of}
 use Rattle.records.specs.Reading.{is_mark}
-use Rattle.demands.specs.Calls.{Call, number_told, size_told, measured_told, written}
+use Rattle.demands.specs.Calls.{Call, told_numbers, number_told, size_told, measured_told, written}
 
 -- behind the outcomes of a record of n qubits: place k holds the sign of a row
 abbrev pub sign_place : ℕ → ℕ → ℕ → Bool
@@ -54,6 +54,6 @@ byte_of_three n count k a b c =
 pub record Fourth (text : List ℕ) (p q r s : Call text) : Type 0 where
   pub circuit : Circuit
   pub meant : meaning text ≡ accepted circuit
-  pub answer : s.answer ≡ p.answer
+  pub answer : told_numbers s ≡ told_numbers p
   pub bytes : (k : ℕ) → k < size_told p
       → get_or (written s) k 0 ≡ byte_of_three circuit.qubits (measured_told p) k (get_or (written p) k 0) (get_or (written q) k 0) (get_or (written r) k 0)

@@ -1,35 +1,42 @@
 -- A call of the run, seen from outside: what it was lent, what it answered, handed back and left in the buffer. Assumes nothing.
-use Rattle.std.specs.Prelude.{Bool, List, [], ◌∷◌, ◌≡◌, ℕ, ◌+◌, get_or, take, drop, length}
+use Rattle.std.specs.Prelude.{Bool, List, [], ◌∷◌, ◌≡◌, ℕ, ◌+◌, get_or, take, drop, length, Result}
+use Rattle.answers.specs.declared.Refusal.{Refusal}
+use Rattle.answers.specs.Refusals.{told}
 use Rattle.records.specs.Record.{outcome_of}
 use Rattle.records.specs.Reading.{outcome_part}
-use Rattle.run.specs.Run.{Runs}
+use Rattle.run.specs.declared.Ran.{Ran}
+use Rattle.run.specs.Run.{numbers, Runs}
 use Rattle.tally.specs.Tally.{one_if}
 
 -- a call with this circuit that keeps the run's promise
 pub record Call (text : List ℕ) : Type 0 where
   pub coins : List ℕ
   pub old : List ℕ
-  pub answer : List ℕ
+  pub got : Result Ran Refusal
   pub rest : List ℕ
   pub new : List ℕ
-  pub keeps : Runs text coins old answer rest new
+  pub keeps : Runs text coins old got rest new
 
 module _ {text : List ℕ} (p : Call text) where
-  -- what it answers: the refusal's number, 0 when accepted; the record's length; how many were measured, random, taken
+  -- what it answers, in numbers
+  abbrev pub told_numbers : List ℕ
+  told_numbers = numbers (told p.got)
+
+  -- the refusal's number, 0 when accepted; the record's length; how many were measured, random, taken
   abbrev pub number_told : ℕ
-  number_told = get_or p.answer 0 0
+  number_told = get_or told_numbers 0 0
 
   abbrev pub size_told : ℕ
-  size_told = get_or p.answer 2 0
+  size_told = get_or told_numbers 2 0
 
   abbrev pub measured_told : ℕ
-  measured_told = get_or p.answer 3 0
+  measured_told = get_or told_numbers 3 0
 
   abbrev pub random_told : ℕ
-  random_told = get_or p.answer 4 0
+  random_told = get_or told_numbers 4 0
 
   abbrev pub taken_told : ℕ
-  taken_told = get_or p.answer 5 0
+  taken_told = get_or told_numbers 5 0
 
   -- the record that stands at the buffer's front
   abbrev pub written : List ℕ

@@ -20,7 +20,11 @@ use Rattle.packing.specs.View.{rows_of}
 use Rattle.records.specs.Record.{mark, record_with, record_length}
 use Rattle.records.proofs.Lengths.{length-record}
 use Rattle.tally.specs.declared.Tally.{Tally}
-use Rattle.run.specs.Run.{Sheet, sheet, run_circuit, run_of, numbers, rest_of, buffer_after, Runs}
+use Rattle.std.specs.Prelude.{Ok, Err}
+use Rattle.answers.specs.declared.Refusal.{Refusal}
+use Rattle.answers.specs.Refusals.{number_of, place_of}
+use Rattle.run.specs.declared.Ran.{Ran}
+use Rattle.run.specs.Run.{Sheet, sheet, run_circuit, run_of, answered, rest_of, buffer_after, Runs}
 use Rattle.walking.specs.Parts.Walk.{lines_of, or_none, Ended, Stuck}
 use Rattle.run.specs.Parts.Ran.{judgement, Sheeted}
 use Rattle.walking.proofs.Counting.{run_count, measured_few}
@@ -171,18 +175,19 @@ may_size text n count measured body a =
     (omega (arith, p.few_qubits, a.qubits_is), omega (arith, measured_few a.circuit.ops, p.few_operations, a.measured_is))
 
 -- what the caller is told
-pub ran_sheet : (text coins old : List ℕ) (size : ℕ) (t : Tally) (rest new : List ℕ) → Sheeted text coins old size t new → rest ≡ drop t.taken coins
-    → Runs text coins old (0 ∷ 0 ∷ size ∷ t.measured ∷ t.random ∷ t.taken ∷ []) rest new
-ran_sheet text coins old size t rest new r e = record {
-  answers = ap₂ (λ (k : ℕ) (u : Tally). 0 ∷ 0 ∷ k ∷ u.measured ∷ u.random ∷ u.taken ∷ []) r.size_is r.tally_is ∙ sym (ap numbers r.is);
+the_ran : ℕ → Tally → Ran
+the_ran k u = record { size = k; tally = u }
+
+pub ran_sheet : (text coins old : List ℕ) (a : Ran) (rest new : List ℕ) → Sheeted text coins old a.size a.tally new → rest ≡ drop a.tally.taken coins → Runs text coins old (Ok a) rest new
+ran_sheet text coins old a rest new r e = record {
+  answers = ap₂ (λ (k : ℕ) (u : Tally). accepted (the_ran k u)) r.size_is r.tally_is ∙ sym (ap answered r.is);
   hands_back = e ∙ ap (λ (u : Tally). drop u.taken coins) r.tally_is ∙ sym (ap (λ (v : Verdict Sheet). rest_of v coins) r.is);
   buffer = r.buffer ∙ sym (ap (λ (v : Verdict Sheet). buffer_after v old) r.is);
 }
 
-pub ran_refused : (text coins old : List ℕ) (number place : ℕ) (new : List ℕ) → run_of text coins (length old) ≡ refused number place → new ≡ old
-    → Runs text coins old (number ∷ place ∷ 0 ∷ 0 ∷ 0 ∷ 0 ∷ []) coins new
-ran_refused text coins old number place new e b = record {
-  answers = sym (ap numbers e);
+pub ran_refused : (text coins old : List ℕ) (r : Refusal) (new : List ℕ) → run_of text coins (length old) ≡ refused (number_of r) (place_of r) → new ≡ old → Runs text coins old (Err r) coins new
+ran_refused text coins old r new e b = record {
+  answers = sym (ap answered e);
   hands_back = sym (ap (λ (v : Verdict Sheet). rest_of v coins) e);
   buffer = b ∙ sym (ap (λ (v : Verdict Sheet). buffer_after v old) e);
 }

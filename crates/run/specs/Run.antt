@@ -1,5 +1,5 @@
 -- The run of a circuit text with lent coins and a record buffer: document 01, order of refusals 1 to 6, then 8, then 7. Assumes nothing.
-use Rattle.std.specs.Prelude.{List, ◌≡◌, ℕ, leb, length, drop, Result}
+use Rattle.std.specs.Prelude.{List, [], ◌∷◌, ◌≡◌, ℕ, leb, length, drop, Result}
 use Rattle.answers.specs.Verdict.{Verdict, accepted, refused, then, unless, over}
 use Rattle.clifford.specs.Run.{State, begin, run}
 use Rattle.circuit.specs.Text.{Circuit, meaning, count_measured}
@@ -29,8 +29,13 @@ run_of text coins room =
     then (meaning text) (λ c. unless (leb (record_length c.qubits (count_measured c.ops)) room) 8 0 (run_circuit c coins))
 
 -- what is answered of a sheet: the record's length, and the tally
-abbrev pub ran : Sheet → Ran
-ran s = record { size = length s.bytes; tally = s.tally }
+abbrev pub answered : Verdict Sheet → Verdict Ran
+answered v = then v (λ s. accepted (record { size = length s.bytes; tally = s.tally }))
+
+-- the same in numbers: number, place, the record's length, and the three counters; where a number is answered, a refusal gives zero
+abbrev pub numbers : Verdict Ran → List ℕ
+numbers (accepted r) = 0 ∷ 0 ∷ r.size ∷ r.tally.measured ∷ r.tally.random ∷ r.tally.taken ∷ []
+numbers (refused number place) = number ∷ place ∷ 0 ∷ 0 ∷ 0 ∷ 0 ∷ []
 
 -- the unused rest: the lent coins without their first so many as were taken; when refused, all of them
 abbrev pub rest_of : Verdict Sheet → List ℕ → List ℕ
@@ -44,6 +49,6 @@ buffer_after (refused number place) old = old
 
 -- what a run promises of its answer, of the coins it hands back and of the lent buffer
 pub record Runs (text coins old : List ℕ) (answer : Result Ran Refusal) (rest new : List ℕ) : Type 0 where
-  pub answers : told answer ≡ then (run_of text coins (length old)) (λ s. accepted (ran s))
+  pub answers : told answer ≡ answered (run_of text coins (length old))
   pub hands_back : rest ≡ rest_of (run_of text coins (length old)) coins
   pub buffer : new ≡ buffer_after (run_of text coins (length old)) old
