@@ -25,14 +25,9 @@ use Rattle.records.specs.Record.{mark, mark_of}
 use Rattle.tally.specs.declared.Tally.{Tally}
 use Rattle.tally.specs.Tally.{one_if}
 use Rattle.tally.specs.Parts.Stepping.{none_yet, stepped}
-use Rattle.circuit.specs.Lines.{op_line}
-use Rattle.circuit.specs.Parts.Reading.{Stands}
-use Rattle.circuit.specs.Text.{all_below}
 use Rattle.quick_lines.specs.Parts.Coded.{op_in, length_in, Allowed}
 use Rattle.quick_lines.proofs.Codes.{allowed_valid}
-use Rattle.walking.specs.declared.Step.{Step}
-use Rattle.walking.specs.declared.Step.TheVariants as steps
-use Rattle.walking.specs.Parts.Walk.{Fixed, Random, Dry, View, Went, Goes, MeasureAs, Applies, StepAs}
+use Rattle.walking.specs.Parts.Walk.{Fixed, Random, Dry, ShotIs, View, Went, Goes, Applies}
 use Rattle.tally.proofs.Tallies.{tally_begin, tally_stepped}
 
 pub view_begin : (n : ℕ) (coins words marks : List ℕ) → Holds n words → length marks ≡ most_operations → start n ≡ rows_of n words → View n coins (begin n coins) words marks none_yet
@@ -105,15 +100,14 @@ module _ (n : ℕ) (coins : List ℕ) (e : State) (words marks : List ℕ) (t : 
             (ap₂ (λ b r. afterwards g a b (collapsed n a f.row b r)) (sym f.is) v.rows_are ∙ sym f.after) (em ∙ ap (mark_of true) f.is) eu h (sym l) (omega (arith, k, all)) (omega (arith, ap length c));
       }
 
+  -- either
+  pub went_shot : (line : ℕ) (g : After) (a : ℕ) (random value : Bool) (words' : List ℕ) (m : ℕ) (u : Tally) → Holds n words' → ShotIs n g a (rows_of n words) (drop t.taken coins) random value (rows_of n words')
+      → m ≡ mark_of random value → u ≡ stepped random t → t.measured < most_operations → Went n coins (step n line (measure g a) e) words' (set marks t.measured m) u
+  went_shot line g a true value words' m u hd f em eu h = went_random line g a value words' m u hd f em eu h
+  went_shot line g a false value words' m u hd f em eu h = went_fixed line g a value words' m u hd f em eu h
+
   pub went_dry : (line : ℕ) (g : After) (a : ℕ) → Dry n a (rows_of n words) (drop t.taken coins) → step n line (measure g a) e ≡ refused 7 line
   went_dry line g a f = ap₂ (settle n line g a e) (ap (random_row n a) v.rows_are ∙ f.kind) (v.coins_are ∙ f.none_left)
-
--- a line that measures
-pub measured_step : (text : List ℕ) (at n : ℕ) (f : After) (a : ℕ) (coins words marks : List ℕ) (t : Tally) (next : ℕ) (r : Step) (words' marks' : List ℕ) → Stands op_line text at (measure f a) next
-    → all_below n (measure f a) ≡ true → MeasureAs n f a coins words marks t next r words' marks' → StepAs text at n coins words marks t r words' marks'
-measured_step text at n f a coins words marks t next (steps.Next behind u) words' marks' k b m = record { op = measure f a; stands = rw m.0 k; below = b; parted = refl; goes = m.1 }
-measured_step text at n f a coins words marks t next steps.NoCoin words' marks' k b m = record { op = measure f a; next = next; stands = k; stops = m }
-measured_step text at n f a coins words marks t next steps.Refused words' marks' k b m = absurd m
 
 -- a line with a gate, by its number
 pub applied_step : (text : List ℕ) (at n code next : ℕ) (coins words marks : List ℕ) (t : Tally) (words' : List ℕ) → n ≤ most_qubits → Allowed text at n code → next ≡ at + length_in code
@@ -125,3 +119,6 @@ applied_step text at n code next coins words marks t words' h w e p = record {
   parted = w.parted;
   goes = λ line state v. rw p.is (went_gate n coins state words marks t v line p.gate words' h (rw p.is at (allowed_valid text at n code w)) p.gated);
 }
+
+pub applied_holds : (text : List ℕ) (at n code : ℕ) (words words' : List ℕ) → n ≤ most_qubits → Holds n words → Allowed text at n code → Applies code words words' → Holds n words'
+applied_holds text at n code words words' h hd w p = p.gated.holds n h (rw p.is at (allowed_valid text at n code w)) hd

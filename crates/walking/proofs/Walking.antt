@@ -6,11 +6,13 @@ use native.Mathlib.Numerals.{add-one}
 use native.Mathlib.Omega.{arith}
 use lib.ListN.{length, drop}
 use lib.Seq.{append_snoc}
-use Rattle.limits.specs.Limits.{most_qubits, most_operations}
+use Rattle.limits.specs.Limits.{most_operations}
 use Rattle.answers.specs.Verdict.{Verdict, accepted, refused, then}
 use Rattle.answers.proofs.Accepting.{then_accepted}
 use Rattle.clifford.specs.declared.Op.{Op}
 use Rattle.clifford.specs.Run.{State, run, begin}
+use Rattle.clifford.specs.Tableau.{start}
+use Rattle.packing.specs.View.{rows_of, Holds}
 use Rattle.circuit.specs.Text.{operations}
 use Rattle.circuit.proofs.Positions.{front, past}
 use Rattle.checking.proofs.Counting.{then_then}
@@ -18,7 +20,9 @@ use Rattle.circuit.proofs.Walk.{allowed_line, operations_end, next_line, next_at
 use Rattle.tally.specs.declared.Tally.{Tally}
 use Rattle.tally.specs.Tally.{randoms}
 use Rattle.tally.specs.Parts.Stepping.{none_yet}
-use Rattle.walking.specs.Parts.Walk.{View, Goes, Stops, Room, lines_of, or_none, Ended, Stuck, Walkable}
+use Rattle.walking.specs.declared.Stop.{Stop}
+use Rattle.walking.specs.declared.Stop.TheVariants.{NoCoin, Refused}
+use Rattle.walking.specs.Parts.Walk.{View, Goes, Stops, Stopped, HasRoom, lines_of, or_none, Ended, Stuck}
 use Rattle.tally.proofs.Tallies.{tally_tied, randoms_within}
 use Rattle.walking.proofs.Counting.{step_count}
 use Rattle.walking.proofs.Views.{view_begin}
@@ -39,30 +43,27 @@ then_none (accepted a) = refl
 then_none (refused m p) = refl
 
 module _ (text : List ℕ) (body n : ℕ) (coins : List ℕ) where
-  pub walk_begin : (words marks : List ℕ) → Walkable n words marks → Walking text body n coins words marks none_yet body 2
-  walk_begin words marks w = record {
+  pub walk_begin : (words marks : List ℕ) → Holds n words → length marks ≡ most_operations → rows_of n words ≡ start n → Walking text body n coins words marks none_yet body 2
+  walk_begin words marks hd room from_start = record {
     state = begin n coins;
     done = [];
     room = most_operations;
     left = then_none (operations n most_operations 2 (drop body text));
     so_far = λ ops. refl;
-    view = view_begin n coins words marks w.holds w.room w.from_start;
+    view = view_begin n coins words marks hd room (sym from_start);
     count = omega arith;
     lines = omega arith;
   }
 
   module _ (words marks : List ℕ) (t : Tally) (at line : ℕ) (w : Walking text body n coins words marks t at line) where
     -- the counters have room
-    pub walk_room : n ≤ most_qubits → (line ≡ most_operations + 2 → ⊥) → Room n coins words marks t
-    walk_room h l =
+    pub walk_room : line < most_operations + 2 → HasRoom coins t
+    walk_room l =
         let m = tally_tied n 2 (w.done ++ []) coins w.state (w.so_far []) in
         let c : t.measured < most_operations = omega (arith, w.count, w.lines) in
         let r : t.random ≡ randoms w.state.outcomes = ap (λ (u : Tally). u.random) w.view.tally_is in
         let p : t.taken ≡ randoms w.state.outcomes = ap (λ (u : Tally). u.taken) w.view.tally_is ∙ sym m.random_taken in
         record {
-          qubits = h;
-          holds = w.view.holds;
-          marks_room = w.view.room;
           measured = c;
           random = omega (arith, c, r, w.view.count, randoms_within w.state.outcomes);
           taken = omega (arith, c, p, w.view.count, randoms_within w.state.outcomes);
@@ -70,7 +71,7 @@ module _ (text : List ℕ) (body n : ℕ) (coins : List ℕ) where
         }
 
     -- one line further
-    pub walk_on : at < length text → (line ≡ most_operations + 2 → ⊥) → (next : ℕ) (words' marks' : List ℕ) (t' : Tally) → Goes text at n coins words marks t next words' marks' t' → Walking text body n coins words' marks' t' next (line + 1)
+    pub walk_on : at < length text → line < most_operations + 2 → (next : ℕ) (words' marks' : List ℕ) (t' : Tally) → Goes text at n coins words marks t next words' marks' t' → Walking text body n coins words' marks' t' next (line + 1)
     walk_on l f next words' marks' t' g =
         let e = g.goes line w.state w.view in
         let op = g.op in
@@ -106,17 +107,21 @@ module _ (text : List ℕ) (body n : ℕ) (coins : List ℕ) where
         let q = then_accepted (operations n w.room line (drop at text)) (λ more. accepted (w.done ++ more)) ops (sym w.left ∙ a) in
         record { more = q.value; left_is = q.first; ops_are = (let z = q.later in cc) }
 
-    pub walk_dry : at < length text → Stops text at n coins words marks t → Stuck text body n coins line
+    walk_dry : at < length text → Stops text at n coins words marks t → Stuck text body n coins line
     walk_dry l g a =
         let r = rest (lines_of n body text) a in
         let q = next_at n w.room line text at r.more r.left_is g.op g.next l g.stands in
         ap (λ (o : List Op). run n 2 o (begin n coins)) (sym r.ops_are) ∙ w.so_far r.more ∙ ap (λ (o : List Op). run n line o w.state) q.ops_is
         ∙ ap (λ (v : Verdict State). then v (run n (suc line) q.more)) (g.stops line w.state w.view)
 
-    pub walk_refused : at < length text → (at < length text → (room line : ℕ) (ops : List Op) → operations n room line (drop at text) ≡ accepted ops → ⊥) → Stuck text body n coins line
+    walk_refused : at < length text → (at < length text → (room line : ℕ) (ops : List Op) → operations n room line (drop at text) ≡ accepted ops → ⊥) → Stuck text body n coins line
     walk_refused l g a =
         let r = rest (lines_of n body text) a in
         absurd (g l w.room line r.more r.left_is)
+
+    pub walk_stopped : at < length text → (why : Stop) → Stopped text at n coins words marks t why → Stuck text body n coins line
+    walk_stopped l NoCoin g = walk_dry l g
+    walk_stopped l Refused g = walk_refused l g
 
     pub walk_full : at < length text → most_operations + 2 ≤ line → Stuck text body n coins line
     walk_full l f a =

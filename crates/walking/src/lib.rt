@@ -6,9 +6,9 @@ ghost use Rattle.std.specs.Prelude.{◌≡◌, ◌≤◌, ◌<◌, length, drop}
 ghost use Rattle.clifford.specs.Run.{Valid};
 ghost use Rattle.quick_lines.specs.Parts.Coded.{following, op_in, name_in};
 ghost use Rattle.limits.specs.Limits.{most_qubits};
-ghost use Rattle.packing.specs.View.{Words, rows_of};
+ghost use Rattle.packing.specs.View.{rows_of};
 ghost use Rattle.records.specs.Record.{mark};
-ghost use Rattle.walking.specs.Parts.Walk.{flipped, ShotAs, Room, MeasureAs, Applies, StepAs, Walkable, WalkAs};
+ghost use Rattle.walking.specs.Parts.Walk.{flipped, ShotAs, HasRoom, MeasureAs, Applies, StepAs, Walkable, WalkAs};
 
 use clifford::{One, Outcome};
 use packing::{Packed, Words};
@@ -17,7 +17,7 @@ use tally::Tally;
 // X on a, where it is to be applied.
 fn flip(rows: &mut Packed, a: usize, applies: bool)
     requires { a < rows.old.qubits }
-    ensures { (rows.new.qubits ≡ rows.old.qubits) × (rows_of rows.new.qubits rows.new.words ≡ flipped a applies (rows_of rows.old.qubits rows.old.words)) }
+    ensures { (rows.new.qubits ≡ rows.old.qubits) × (rows_of rows.old.qubits rows.new.words ≡ flipped a applies (rows_of rows.old.qubits rows.old.words)) }
 {
     if applies {
         columns::one(&mut rows.words, usize::from(u8::from(One::PauliX)), a);
@@ -86,7 +86,7 @@ pub struct Walk {
 // The gate of this number.
 #[inline(always)]
 pub fn apply(words: &mut Words, code: usize)
-    requires { Words words.old × Valid most_qubits (op_in code) × (name_in code ≡ 77 → ⊥) }
+    requires { Valid most_qubits (op_in code) × (name_in code ≡ 77 → ⊥) }
     ensures { Applies code words.old words.new }
 {
     let name = quick_lines::code::name(code);
@@ -113,7 +113,7 @@ impl Walk {
     }
 
     fn measure(&mut self, reset: bool, a: usize, coins: &[u8]) -> Option<()>
-        requires { Room coins.now self.old × (a < self.old.rows.qubits) }
+        requires { HasRoom coins.now self.old.tally × (a < self.old.rows.qubits) }
         ensures { MeasureAs (following reset) a coins.now self.old result self.new }
     {
         let used = self.tally.taken;
@@ -125,7 +125,7 @@ impl Walk {
 
     // The line at this position; the position behind it.
     fn turn(&mut self, text: &[u8], at: usize, coins: &[u8]) -> Result<usize, Stop>
-        requires { Room coins.now self.old × (at ≤ length text.now) }
+        requires { HasRoom coins.now self.old.tally × (at ≤ length text.now) }
         ensures { StepAs text.now at coins.now self.old result self.new }
     {
         let code = quick_lines::op_at(text, at, self.rows.qubits);

@@ -1,5 +1,5 @@
 -- What the parts of a walk over the operation lines promise one another: a measurement, one line, and all lines. Assumes nothing.
-use Rattle.std.specs.Prelude.{Bool, true, cond, List, [], ◌∷◌, map, ◌≡◌, ℕ, ◌≤◌, ◌<◌, length, take, drop}
+use Rattle.std.specs.Prelude.{Bool, true, false, cond, List, [], ◌∷◌, map, ◌≡◌, ℕ, ◌≤◌, ◌<◌, length, take, drop}
 use Rattle.std.specs.Prelude.{Option, None, Some, Result, Ok, Err}
 use Rattle.limits.specs.Limits.{most_operations}
 use Rattle.answers.specs.Verdict.{Verdict, accepted, refused}
@@ -106,17 +106,21 @@ pub record Stops (text : List ℕ) (at n : ℕ) (coins words marks : List ℕ) (
   pub stands : Stands op_line text at op next
   pub stops : (line : ℕ) (e : State) → View n coins e words marks t → step n line op e ≡ refused 7 line
 
+-- why it is not done: a coin is missing, or the line is refused
+abbrev pub Stopped : List ℕ → ℕ → ℕ → List ℕ → List ℕ → List ℕ → Tally → Stop → Type 0
+Stopped text at n coins words marks t NoCoin = Stops text at n coins words marks t
+Stopped text at n coins words marks t Refused = at < length text → (room line : ℕ) (ops : List Op) → operations n room line (drop at text) ≡ accepted ops → ⊥
+
 abbrev pub StepAs : List ℕ → ℕ → List ℕ → Walk → Result ℕ Stop → Walk → Type 0
 StepAs text at coins w (Ok next) w' = (w'.rows.qubits ≡ w.rows.qubits) × Goes text at w.rows.qubits coins w.rows.words w.marks w.tally next w'.rows.words w'.marks w'.tally
-StepAs text at coins w (Err NoCoin) w' = Stops text at w.rows.qubits coins w.rows.words w.marks w.tally
-StepAs text at coins w (Err Refused) w' = at < length text → (room line : ℕ) (ops : List Op) → operations w.rows.qubits room line (drop at text) ≡ accepted ops → ⊥
+StepAs text at coins w (Err why) w' = Stopped text at w.rows.qubits coins w.rows.words w.marks w.tally why
 
 -- the counters have room for one more
-pub record Room (coins : List ℕ) (w : Walk) : Type 0 where
-  pub measured : w.tally.measured < most_operations
-  pub random : w.tally.random < most_operations
-  pub taken : w.tally.taken < most_operations
-  pub enough : w.tally.taken ≤ length coins
+pub record HasRoom (coins : List ℕ) (t : Tally) : Type 0 where
+  pub measured : t.measured < most_operations
+  pub random : t.random < most_operations
+  pub taken : t.taken < most_operations
+  pub enough : t.taken ≤ length coins
 
 -- the measurement of a
 abbrev pub MeasureAs : After → ℕ → List ℕ → Walk → Option (Unit {0}) → Walk → Type 0
