@@ -55,10 +55,8 @@ fn no_name(rt: &impl Eprint) -> Stop {
 
 // What the system says of an error, without the number that std puts behind it.
 fn words(told: &str) -> &str {
-    match told.split_once(" (os error ") {
-        Some((words, _)) => words,
-        None => told,
-    }
+    told.split_once(" (os error ")
+        .map_or(told, |(words, _)| words)
 }
 
 fn say_cannot<R: Eprint + AllocGlobal>(
@@ -123,7 +121,7 @@ pub fn open_word<R: Files + Env + Eprint + AllocGlobal>(rt: &R, i: usize) -> Res
 }
 
 // The bytes of the file that the i-th word names, which may have so many.
-fn read_word<R: Files + Env + Eprint + AllocGlobal>(
+fn read_at_most<R: Files + Env + Eprint + AllocGlobal>(
     rt: &R,
     i: usize,
     most: u32,
@@ -144,14 +142,14 @@ fn read_word<R: Files + Env + Eprint + AllocGlobal>(
 pub fn circuit<R: Files + Env + Eprint + AllocGlobal>(rt: &R) -> Result<Vec<u8>, Stop>
     ensures { IfOk result (λ bytes. vec_len bytes ≤ LONGEST_CIRCUIT) }
 {
-    read_word(rt, 1, LONGEST_CIRCUIT, "the circuit is too long")
+    read_at_most(rt, 1, LONGEST_CIRCUIT, "the circuit is too long")
 }
 
 // The coins of the file that the second word names.
 pub fn coins<R: Files + Env + Eprint + AllocGlobal>(rt: &R) -> Result<Vec<u8>, Stop>
     ensures { IfOk result (λ bytes. vec_len bytes ≤ MOST_COINS) }
 {
-    read_word(rt, 2, MOST_COINS, "there are too many coins")
+    read_at_most(rt, 2, MOST_COINS, "there are too many coins")
 }
 
 // As many bytes as the longest record has at the end of the file that the i-th word names, or all of it where there are fewer.

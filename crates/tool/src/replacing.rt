@@ -61,23 +61,16 @@ pub fn save<R: Files + Env + Eprint + AllocGlobal>(
         _ => return Err(no_name(rt)),
     };
     let (beside, file) = create_free(rt, &name).map_err(|why| not_made(rt, &name, why))?;
-    if let Err(why) = put_all(file, bytes) {
+    let give_up = |what: &str, why: Error| {
         let _ = fs::remove_file(rt, &beside);
-        return Err(cannot(
-            rt,
-            "not written, and left as it was, make room and do it again",
-            &name,
-            why,
-        ));
-    }
-    if let Err(why) = rename(rt, &beside, &name) {
-        let _ = fs::remove_file(rt, &beside);
-        return Err(cannot(
-            rt,
-            "cannot be replaced, name a file that can be written",
-            &name,
-            why,
-        ));
-    }
-    Ok(())
+        cannot(rt, what, &name, why)
+    };
+    put_all(file, bytes).map_err(|why| give_up(
+        "not written, and left as it was, make room and do it again",
+        why,
+    ))?;
+    rename(rt, &beside, &name).map_err(|why| give_up(
+        "cannot be replaced, name a file that can be written",
+        why,
+    ))
 }
