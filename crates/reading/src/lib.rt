@@ -25,7 +25,7 @@ fn refused(why: Refusal, words: &mut Words) -> Last
     requires { Words words.old }
     ensures { Refuses why result words.new }
 {
-    start_rows::start(words, 1);
+    start_rows::start_words(words, 1);
     Last::Refused(why)
 }
 
