@@ -3,61 +3,41 @@
 #![tactic(auto)]
 
 use clifford::{Gate, One};
-use std::env::Env;
-use std::io;
+use std::{env, io};
 use tableau::Tableau;
 
 fn by_gates(rounds: usize) -> u64 {
     let mut t = Tableau::start(limits::MOST_QUBITS);
-    let mut i: usize = 0;
-    while i < rounds {
+    for i in 0..rounds {
         t = t.gate(Gate::One(One::H, i % limits::MOST_QUBITS));
-        i += 1;
     }
-    let w = t.words;
-    w[0]
+    t.packed.words[0]
 }
 
 fn by_measurements(rounds: usize) -> u64 {
     let mut t = Tableau::start(limits::MOST_QUBITS);
-    let mut i: usize = 0;
-    while i < rounds {
-        let after = t.gate(Gate::One(One::H, i % limits::MOST_QUBITS));
-        let m = after.measure(i % limits::MOST_QUBITS, i % 2 == 1);
+    for i in 0..rounds {
+        let a = i % limits::MOST_QUBITS;
+        let m = t.gate(Gate::One(One::H, a)).measure(a, i % 2 == 1);
         t = m.tableau;
-        i += 1;
     }
-    let w = t.words;
-    w[0]
+    t.packed.words[0]
 }
 
 fn lent(rounds: usize) -> u64 {
-    let t = Tableau::start(limits::MOST_QUBITS);
-    let mut w = t.words;
-    let mut i: usize = 0;
-    while i < rounds {
-        columns::gate(&mut w, Gate::One(One::H, i % limits::MOST_QUBITS));
-        i += 1;
+    let mut words = Tableau::start(limits::MOST_QUBITS).packed.words;
+    for i in 0..rounds {
+        columns::gate(&mut words, Gate::One(One::H, i % limits::MOST_QUBITS));
     }
-    w[0] ^ w[6]
-}
-
-// The length of the first word of the command line; of one that is missing or long, none.
-fn word_length(rt: &impl Env) -> usize {
-    let mut word = [0u8; 4096];
-    match rt.arg(1, &mut word) {
-        Ok(n) => n,
-        Err(_) => 0,
-    }
+    words[0] ^ words[6]
 }
 
 fn main(rt: HostRuntime) -> io::Result<()> {
-    let n = word_length(&rt);
-    if n == 4 {
-        println!(rt; "{}", lent(10000000))
-    } else if n == 5 {
-        println!(rt; "{}", by_gates(100000))
-    } else {
-        println!(rt; "{}", by_measurements(100000))
-    }
+    let word = env::args(&rt)?.nth(1);
+    let done = match word.as_ref().map(|w| w.as_str()) {
+        Some("lent") => lent(10_000_000),
+        Some("value") => by_gates(100_000),
+        _ => by_measurements(100_000),
+    };
+    println!(rt; "{done}")
 }

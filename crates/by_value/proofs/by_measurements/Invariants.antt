@@ -1,12 +1,7 @@
--- `by_value::by_measurements` stays within what it holds. Assumes nothing.
+-- `by_value::by_measurements` keeps the number of qubits. Assumes nothing.
 use mathlib.Core.Path.{◌≡◌}
-use Prim.Native.Nat.{◌-◌, ◌≤◌}
 use Rattle.limits.specs.Limits.{most_qubits}
-use Rattle.tableau.specs.View.{Sized}
 use Rattle.by_value.proofs.by_measurements.Given as goal
 
 abbrev pub invariant-loop-i : goal.invariant-loop-i
-invariant-loop-i l = (l.t.n ≡ most_qubits) × Sized l.t × (l.i ≤ l.rounds)
-
-abbrev pub decreases-loop-i : goal.decreases-loop-i
-decreases-loop-i l = l.rounds - l.i
+invariant-loop-i l = l.t.packed.qubits ≡ most_qubits

@@ -1,10 +1,13 @@
 -- `Tableau::gate` meets its contract. Assumes nothing.
-use Rattle.columns.proofs.Gates.{fits_more}
-use Rattle.tableau.proofs.Measuring.{applied}
+use mathlib.Core.Path.{refl}
 use Rattle.tableau.proofs.Tableau.gate.Goals as goal
 
-pub gate-requires : goal.gate-requires
-gate-requires c = let e = c in (e.requires.0.holds.words, fits_more e.args.g e.args.self.n _ e.requires.0.most e.requires.1)
+pub invariant_of-packed : goal.invariant_of-packed
+invariant_of-packed c =
+    let p = c.args.self.packed in
+    record { few = p.few; holds = c.gate.ensures.holds p.qubits p.few c.requires p.holds }
 
 pub returns : goal.returns
-returns c = let e = c in applied e.args.g e.args.self _ e.requires.0 e.requires.1 c.gate.ensures
+returns c =
+    let p = c.args.self.packed in
+    record { size = refl; after = c.gate.ensures.rows p.qubits p.few c.requires }

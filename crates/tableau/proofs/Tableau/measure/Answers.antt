@@ -1,39 +1,29 @@
 -- `Tableau::measure` meets its contract. Assumes nothing.
-use Rattle.std.specs.Prelude.{Some}
-use mathlib.Core.Path.{◌≡◌, refl}
+use mathlib.Core.Path.{refl, ap, ◌∙◌}
 use Rattle.answers.proofs.First.{lowest_below}
-use Rattle.tableau.specs.View.{rows}
-use Rattle.tableau.proofs.Measuring.{random_answer, fixed_answer}
+use Rattle.packing.specs.declared.Packed.{Packed}
+use Rattle.packing.specs.View.{rows_of}
+use Rattle.tableau.proofs.Measuring.{same_rows, random_answer, fixed_answer}
 use Rattle.tableau.proofs.Tableau.measure.Goals as goal
-
-pub random_row-found-requires : goal.random_row-found-requires
-random_row-found-requires c = let e = c in (e.requires.0.holds, e.requires.0.most, e.requires.1)
+use Rattle.tableau.proofs.Tableau.measure.Goals.{in-Some, in-None}
 
 pub collapse-requires : goal.collapse-requires
-collapse-requires c =
-    let e = c in
-    let p : Some c.in-At.p ≡ _ = rw c.in-At.is at c.random_row-found.ensures in
-    (e.requires.0.holds, e.requires.0.most, e.requires.1, lowest_below _ _ _ p)
+collapse-requires c = (c.requires, lowest_below _ _ _ c.in-Some.ensures)
 
-pub fixed_value-value-requires : goal.fixed_value-value-requires
-fixed_value-value-requires c = let e = c in (e.requires.0.holds, e.requires.0.most, e.requires.1)
-
-pub returns-in-At : goal.returns-in-At
-unfolding rows
-returns-in-At c =
-    let e = c in (
-      refl,
-      record { least = e.requires.0.least; most = e.requires.0.most; holds = c.collapse.ensures.0 },
-      random_answer e.args.self e.args.a e.args.coin c.in-At.p _
-          (rw c.in-At.is at c.random_row-found.ensures) c.collapse.ensures.1,
-    )
-
-pub returns-in-Nothing : goal.returns-in-Nothing
-unfolding rows
-returns-in-Nothing c =
-    let e = c in (
-      refl,
-      e.requires.0,
-      fixed_answer e.args.self e.args.a e.args.coin _
-          (rw c.in-Nothing.is at c.random_row-found.ensures) c.fixed_value-value.ensures,
-    )
+pub returns : goal.returns
+returns c =
+    let p = c.args.self.packed in
+    let q = c.match-random_row.packed in
+    let t = rows_of p.qubits p.words in
+    let u = rows_of q.qubits q.words in
+    elim c.match-random_row.branch [
+      | in-Some w ↦ (
+        ap (λ (r : Packed). r.qubits) w.packed-is ∙ w.collapse.ensures.0,
+        random_answer p.qubits t u c.args.a c.args.coin _ w.in-Some.p w.in-Some.ensures
+            (same_rows q w.collapse.new.rows p.qubits w.packed-is w.collapse.ensures.0 ∙ w.collapse.ensures.1) w.outcome-is,
+      )
+      | in-None w ↦ (
+        ap (λ (r : Packed). r.qubits) w.packed-is,
+        fixed_answer p.qubits t u c.args.a c.args.coin _ _ w.in-None.ensures (same_rows q p p.qubits w.packed-is refl) w.outcome-is w.fixed_value.ensures,
+      )
+    ]
