@@ -1,6 +1,6 @@
 -- One measurement beside its character, and one line. Assumes nothing.
 use mathlib.Core.Path.{◌≡◌, refl, sym, ◌∙◌, ap, ap₂}
-use mathlib.Core.Bool.{Bool, true, false, not, cond, beq}
+use mathlib.Core.Bool.{Bool, true, false, not, ◌&&◌, cond, beq, true≢false}
 use mathlib.Core.List.{List, [], ◌∷◌, map}
 use Rattle.std.specs.Prelude.{Option, None, Some}
 use Prim.Native.Nat.{ℕ, zero, suc, ◌+◌, ◌≤◌, ◌<◌}
@@ -24,7 +24,8 @@ use Rattle.circuit.proofs.Walk.{next_at}
 use Rattle.packing.specs.View.{rows_of, Holds}
 use Rattle.quick_lines.specs.Parts.Coded.{following, after_of, op_in, name_in, first_in, second_in, length_in, Allowed}
 use Rattle.quick_lines.proofs.Codes.{allowed_valid, is_measure}
-use Rattle.walking.specs.Parts.Walk.{Fixed, Random, Applies}
+use Rattle.walking.specs.Parts.Walk.{Fixed, Random, ShotIs, Applies}
+use Rattle.tally.specs.Tally.{one_if}
 use Rattle.readouts.specs.Readouts.{Weighed, impossible, weigh}
 use Rattle.weighing.specs.declared.Passed.{Passed}
 use Rattle.weighing.specs.Parts.Heard.{Hears, Paces, Halts}
@@ -81,10 +82,10 @@ module _ (n : ℕ) (f : After) (a : ℕ) (t : Rows) (stated : List ℕ) (at : �
         → weigh n line (measure f a ∷ ops) t (drop at (map coin stated)) k ≡ cond (not (beq value outcome)) (impossible line) (weigh n (suc line) ops (afterwards f a value t) later k)
     compared outcome t' s line ops k = rw (sym (differs value outcome), s.is) (heard_by line ops k None s.kind)
 
-    pub heard_against : (outcome : Bool) (t' : Rows) → Fixed n f a t outcome t' → not (beq value outcome) ≡ true → Against
+    heard_against : (outcome : Bool) (t' : Rows) → Fixed n f a t outcome t' → not (beq value outcome) ≡ true → Against
     heard_against outcome t' s e line ops k = rw e at (compared outcome t' s line ops k)
 
-    pub heard_fixed : (outcome : Bool) (words' : List ℕ) → Holds n words' → Fixed n f a t outcome (rows_of n words') → not (beq value outcome) ≡ false → Hears n f a t stated at 0 words'
+    heard_fixed : (outcome : Bool) (words' : List ℕ) → Holds n words' → Fixed n f a t outcome (rows_of n words') → not (beq value outcome) ≡ false → Hears n f a t stated at 0 words'
     heard_fixed outcome words' hd s e = record {
       holds = hd;
       same = λ line ops k.
@@ -92,7 +93,7 @@ module _ (n : ℕ) (f : After) (a : ℕ) (t : Rows) (stated : List ℕ) (at : �
           ∙ ap₂ (λ (u : Rows) (i : ℕ). weigh n (suc line) ops u later i) (ap (λ (b : Bool). afterwards f a b t) (agrees value outcome e) ∙ sym s.after) (sym (add-zero k));
     }
 
-    pub heard_random : (outcome : Bool) (words' : List ℕ) → Holds n words' → Random n f a t (drop at stated) outcome (rows_of n words') → Hears n f a t stated at 1 words'
+    heard_random : (outcome : Bool) (words' : List ℕ) → Holds n words' → Random n f a t (drop at stated) outcome (rows_of n words') → Hears n f a t stated at 1 words'
     heard_random outcome words' hd s =
         let q : get_or stated at 0 ∷ drop (at + 1) stated ≡ s.byte ∷ s.left = sym (front stated at h) ∙ s.coins_are in
         let b : get_or stated at 0 ≡ s.byte = cc in
@@ -103,6 +104,16 @@ module _ (n : ℕ) (f : After) (a : ℕ) (t : Rows) (stated : List ℕ) (at : �
               heard_by line ops k (Some s.row) s.kind
               ∙ ap₂ (λ (u : Rows) (i : ℕ). weigh n (suc line) ops u later i) (ap (λ (b : Bool). afterwards f a b (collapsed n a s.row b t)) v ∙ sym s.after) (sym (add-one k));
         }
+
+    -- the two by its kind, where the value is known by another name
+    pub heard_off : (random outcome v : Bool) (t' : Rows) → v ≡ value → ShotIs n f a t (drop at stated) random outcome t' → not random && not (beq v outcome) ≡ true → Against
+    heard_off true outcome v t' q s e = absurd (true≢false (sym e))
+    heard_off false outcome v t' q s e = heard_against outcome t' s (ap (λ (b : Bool). not (beq b outcome)) (sym q) ∙ e)
+
+    pub heard_on : (random outcome v : Bool) (words' : List ℕ) → v ≡ value → Holds n words' → ShotIs n f a t (drop at stated) random outcome (rows_of n words')
+        → not random && not (beq v outcome) ≡ false → Hears n f a t stated at (one_if random) words'
+    heard_on true outcome v words' q hd s e = heard_random outcome words' hd s
+    heard_on false outcome v words' q hd s e = heard_fixed outcome words' hd s (ap (λ (b : Bool). not (beq b outcome)) (sym q) ∙ e)
 
 -- the line at a position
 module _ (text : List ℕ) (at n : ℕ) where

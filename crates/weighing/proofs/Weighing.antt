@@ -5,7 +5,7 @@ use Prim.Native.Nat.{ℕ, suc, ◌+◌, ◌-◌, ◌≤◌, ◌<◌}
 use native.Mathlib.Omega.{arith}
 use lib.ListN.{length, drop}
 use lib.Seq.{append_snoc}
-use Rattle.limits.specs.Limits.{most_qubits, most_operations}
+use Rattle.limits.specs.Limits.{most_operations}
 use Rattle.answers.specs.Verdict.{Verdict, accepted, then}
 use Rattle.clifford.specs.declared.Op.{Op}
 use Rattle.clifford.specs.Tableau.{Rows, start}
@@ -20,7 +20,7 @@ use Rattle.walking.proofs.Counting.{counted_both}
 use Rattle.walking.proofs.Walking.{then_none}
 use Rattle.readouts.specs.Readouts.{impossible, weigh}
 use Rattle.weighing.specs.declared.Passed.{Passed}
-use Rattle.weighing.specs.Parts.Heard.{Weighable, Paces, Halts, Fresh, WeighsAll, WeighsPart}
+use Rattle.weighing.specs.Parts.Heard.{Weighable, Paces, Halts, WeighsAll, WeighsPart}
 
 -- the operations done so far, what they come to, and that what the text is worth depends on the lines from here on
 pub record Weighing (text : List ℕ) (body n : ℕ) (stated words : List ℕ) (p : Passed) (at done : ℕ) : Type 0 where
@@ -34,12 +34,12 @@ pub record Weighing (text : List ℕ) (body n : ℕ) (stated words : List ℕ) (
   pub random_few : p.random ≤ p.measured
 
 module _ (text : List ℕ) (body n : ℕ) (stated : List ℕ) where
-  pub weigh_begin : (words : List ℕ) → Fresh n words → Weighing text body n stated words (record { measured = 0; random = 0 }) body 0
-  weigh_begin words w = record {
+  pub weigh_begin : (words : List ℕ) → Holds n words → rows_of n words ≡ start n → Weighing text body n stated words (record { measured = 0; random = 0 }) body 0
+  weigh_begin words hd from_start = record {
     before = [];
     left = then_none (operations n most_operations 2 (drop body text));
-    so_far = λ ops. ap (λ (t : Rows). weigh n 2 ops t (map coin stated) 0) w.from_start;
-    holds = w.holds;
+    so_far = λ ops. ap (λ (t : Rows). weigh n 2 ops t (map coin stated) 0) (sym from_start);
+    holds = hd;
     measured_is = refl;
     enough = omega arith;
     few = omega arith;
@@ -48,16 +48,14 @@ module _ (text : List ℕ) (body n : ℕ) (stated : List ℕ) where
 
   module _ (words : List ℕ) (p : Passed) (at done : ℕ) (w : Weighing text body n stated words p at done) where
     -- the counts have room
-    pub weigh_room : n ≤ most_qubits → (done ≡ most_operations → ⊥) → Weighable n words p
-    weigh_room h f = record {
-      qubits = h;
-      holds = w.holds;
+    pub weigh_room : done < most_operations → Weighable p
+    weigh_room f = record {
       measured = omega (arith, w.few, w.enough);
       random = omega (arith, w.random_few, w.few, w.enough);
     }
 
     -- one line further
-    pub weigh_on : at < length text → (done ≡ most_operations → ⊥) → (next : ℕ) (words' : List ℕ) (p' : Passed) → Paces text at n stated words p next words' p'
+    pub weigh_on : at < length text → done < most_operations → (next : ℕ) (words' : List ℕ) (p' : Passed) → Paces text at n stated words p next words' p'
         → Weighing text body n stated words' p' next (done + 1)
     weigh_on l f next words' p' g =
         let op = g.op in

@@ -29,7 +29,13 @@ pub struct Passed {
 }
 
 // The line at this position: the position behind it and the counts with it, or none where the walk stops there.
-fn pace(text: &[u8], at: usize, rows: &mut Packed, stated: &[u8], passed: Passed) -> Option<(usize, Passed)>
+fn pace(
+    text: &[u8],
+    at: usize,
+    rows: &mut Packed,
+    stated: &[u8],
+    passed: Passed,
+) -> Option<(usize, Passed)>
     requires { Weighable passed × (at ≤ length text.now) }
     ensures { PacedAs text.now at stated.now rows.old passed result rows.new }
 {

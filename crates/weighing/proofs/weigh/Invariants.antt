@@ -1,10 +1,7 @@
-use Prim.Native.Nat.{◌-◌}
-use lib.ListN.{length}
+use mathlib.Core.Path.{◌≡◌}
 use Rattle.weighing.proofs.Weighing.{Weighing}
 use Rattle.weighing.proofs.weigh.Given as goal
 
-abbrev pub invariant-loop-at : goal.invariant-loop-at
-invariant-loop-at l = Weighing l.text l.body l.n l.stated l.words l.passed l.at l.done
-
-abbrev pub decreases-loop-at : goal.decreases-loop-at
-decreases-loop-at l = length l.text - l.at
+abbrev pub invariant-loop-done : goal.invariant-loop-done
+invariant-loop-done l =
+    (l.rows.qubits ≡ l.fn.rows.qubits) × Weighing l.text l.body l.rows.qubits l.stated l.rows.words l.passed l.at l.done
