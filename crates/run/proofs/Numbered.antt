@@ -25,8 +25,8 @@ use Rattle.run.specs.Run.{sheet, run_circuit, run_of}
 abbrev Seven : ℕ → Type 0
 Seven m = m ≡ 7
 
-abbrev Some : ℕ → Type 0
-Some m = 1 ≤ m
+abbrev Positive : ℕ → Type 0
+Positive m = 1 ≤ m
 
 -- the operations of a circuit are refused by 7 alone
 pub ran_seven : (n line : ℕ) (ops : List Op) (s : State) → RefusedBy (λ m. m ≡ 7) (run n line ops s)
@@ -50,9 +50,9 @@ circuit_seven c coins = by_then Seven (run c.qubits 2 c.ops (begin c.qubits coin
 pub run_numbered : (text coins : List ℕ) (room : ℕ) → RefusedBy (λ m. 1 ≤ m) (run_of text coins room)
 unfolding run_of
 run_numbered text coins room =
-    by_then Some (meaning text) _ (by_more ByText Some (λ m h. h.0) (meaning text) (meaning_numbered text))
-    (λ c. by_unless Some (leb (record_length c.qubits (count_measured c.ops)) room) 8 0 (run_circuit c coins) (omega arith)
-    (by_more Seven Some (λ m h. omega arith) (run_circuit c coins) (circuit_seven c coins)))
+    by_then Positive (meaning text) _ (by_more ByText Positive (λ m h. h.0) (meaning text) (meaning_numbered text))
+    (λ c. by_unless Positive (leb (record_length c.qubits (count_measured c.ops)) room) 8 0 (run_circuit c coins) (omega arith)
+    (by_more Seven Positive (λ m h. omega arith) (run_circuit c coins) (circuit_seven c coins)))
 
 -- with room for the longest record 8 is never given
 pub run_has_room : (text coins : List ℕ) (room : ℕ) → longest_record ≤ room → (place : ℕ) → run_of text coins room ≡ refused 8 place → ⊥

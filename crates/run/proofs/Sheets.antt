@@ -1,7 +1,7 @@
 -- From the walk to the sheet: the start rows, the written record, and the run's definition. Assumes nothing.
 use mathlib.Core.Path.{◌≡◌, refl, sym, ◌∙◌, ap, ap₂}
 use mathlib.Core.Bool.{Bool}
-use mathlib.Core.List.{List, [], ◌∷◌, map}
+use mathlib.Core.List.{List, map}
 use Prim.Native.Nat.{ℕ, ◌+◌, ◌≤◌, ◌<◌}
 use native.Mathlib.Omega.{arith}
 use lib.Dec.{leb}
@@ -175,7 +175,7 @@ may_size text n count measured body a =
     (omega (arith, p.few_qubits, a.qubits_is), omega (arith, measured_few a.circuit.ops, p.few_operations, a.measured_is))
 
 -- what the caller is told
-the_ran : ℕ → Tally → Ran
+abbrev the_ran : ℕ → Tally → Ran
 the_ran k u = record { size = k; tally = u }
 
 pub ran_sheet : (text coins old : List ℕ) (a : Ran) (rest new : List ℕ) → Sheeted text coins old a.size a.tally new → rest ≡ drop a.tally.taken coins → Runs text coins old (Ok a) rest new

@@ -1,15 +1,10 @@
 -- `run::simulate` meets its contract. Assumes nothing.
 use mathlib.Core.Path.{refl}
+use Rattle.std.proofs.lemmas.Result.{err_from_is_err_and}
 use Rattle.run.proofs.Sheets.{not_read}
 use Rattle.run.proofs.simulate.Goals as goal
 
-pub play-requires : goal.play-requires
-play-requires c = rw c.in-Qubits.is at c.head.ensures
-
-pub returns-in-Qubits : goal.returns-in-Qubits
-returns-in-Qubits c = c.play.ensures
-
-pub returns-in-Refused : goal.returns-in-Refused
-returns-in-Refused c =
-    let e = c in
-    (not_read e.args.text.now e.args.coins.now e.args.«record».now _ _ (rw c.in-Refused.is at c.head.ensures), refl)
+pub returns-in_err-heading : goal.returns-in_err-heading
+returns-in_err-heading c =
+    let p = err_from_is_err_and c.from_residual.result c.from_residual.ensures.1 in
+    rw (p.1, p.2) (not_read c.args.text.now c.args.coins.now c.args.«record».now _ _ c.in_err-heading.ensures, refl)
