@@ -7,6 +7,7 @@ ghost use Rattle.lines.specs.Decimal.{decimal};
 ghost use Rattle.lines.specs.Parts.Putting.{Puts};
 
 // The buffer, and the position behind what was put.
+#[derive(Drop)]
 pub struct Lines<'a> {
     pub out: &'a mut [u8],
     pub at: usize,

@@ -2,14 +2,18 @@
 use mathlib.Core.Bool.{Bool, true, false, cond}
 use mathlib.Core.List.{List, [], ◌∷◌, ◌++◌}
 use mathlib.Core.Path.{◌≡◌, refl, ◌∙◌, ap}
+use Rattle.std.specs.Prelude.{Result, Ok}
 use Prim.Native.Nat.{ℕ, zero, suc, ◌+◌, ◌*◌, ◌/◌, ◌%◌, ◌^◌, ◌≤◌, ◌<◌}
 use native.Mathlib.Nat.{mul-le-mul}
 use native.Mathlib.Omega.{arith}
-use borrow.Author.Tests.{lt-ltb}
+use borrow.Author.Tests.{lt-ltb, le-leb}
 use lib.Dec.{ltb}
 use lib.ListN.{length, length-append}
 use Rattle.limits.specs.Limits.{most_qubits, most_operations}
-use Rattle.answers.specs.Verdict.{Verdict, accepted, refused, then, within}
+use Rattle.answers.specs.declared.Refusal.{Refusal}
+use Rattle.answers.specs.Verdict.{Verdict, accepted, refused, then, unless, within, counted}
+use Rattle.answers.specs.Refusals.{Writes}
+use Rattle.answers.proofs.Known.{one_answer}
 use Rattle.answers.proofs.Numbered.{room_enough}
 use Rattle.pauli.specs.Rows.{Row}
 use Rattle.pauli.specs.Texts.{listed, row_text}
@@ -22,9 +26,10 @@ use Rattle.circuit.specs.Text.{Circuit, meaning}
 use Rattle.checking.proofs.Meant.{parts}
 use Rattle.records.specs.Record.{joined}
 use Rattle.records.proofs.Lengths.{length-row_text, length-joined}
-use Rattle.print_lines.specs.Line.{digits_of, decimal, outcome_line, refused_word, refusal_line}
-use Rattle.print_lines.proofs.Digits.{digits_few}
-use Rattle.print_lines.proofs.Putting.{kind_few}
+use Rattle.lines.specs.Decimal.{digits_of, decimal}
+use Rattle.lines.proofs.Digits.{decimal_few}
+use Rattle.print_lines.specs.Line.{outcome_line, refused_word, refusal_line}
+use Rattle.print_lines.proofs.Words.{kind_few}
 use Rattle.print.specs.Printed.{longest_text, outcome_lines, row_line, row_lines, run_lines, or_refusal, printed, first_line, behind_first_line, too_long, shot_printed}
 use Rattle.print.proofs.Printing.{spaced_last, spaced_more, line_length}
 
@@ -66,7 +71,7 @@ rows_within n t h =
 
 refusal_within : (number place : ℕ) → length (refusal_line number place) ≤ 50
 refusal_within number place =
-    omega (arith, spaced_more refused_word (decimal number) (decimal place ∷ []), spaced_more (decimal number) (decimal place) [], spaced_last (decimal place), digits_few 20 number, digits_few 20 place)
+    omega (arith, spaced_more refused_word (decimal number) (decimal place ∷ []), spaced_more (decimal number) (decimal place) [], spaced_last (decimal place), decimal_few number, decimal_few place)
 
 run_within : (text : List ℕ) (c : Circuit) → meaning text ≡ accepted c → (v : Verdict State) → length (or_refusal (then v (λ e. accepted (run_lines c e)))) ≤ longest_text
 run_within text c m (accepted e) =
@@ -102,3 +107,9 @@ print_has_room text coins room h = room_enough (accepted (printed text coins)) r
 
 pub shot_has_room : (input : List ℕ) (room : ℕ) → longest_text ≤ room → (place : ℕ) → then (accepted (shot_printed input)) (within room) ≡ refused 8 place → ⊥
 shot_has_room input room h = room_enough (accepted (shot_printed input)) room tt (λ bytes e. let q : shot_printed input ≡ bytes = cc in omega (arith, ap length q, shot_within input))
+
+-- and `shot` answers how many bytes are printed
+pub shot_answers : (input old : List ℕ) (r : Result ℕ Refusal) (new : List ℕ) → longest_text ≤ length old → Writes (accepted (shot_printed input)) old r new → r ≡ Ok (length (shot_printed input))
+shot_answers input old r new h w =
+    let text = shot_printed input in
+    one_answer r (Ok (length text)) (w.answer ∙ ap (λ b. counted (unless b 8 0 (accepted text))) (le-leb (length text) (length old) (omega (arith, shot_within input, h))))

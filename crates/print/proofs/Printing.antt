@@ -4,11 +4,14 @@ use mathlib.Core.Path.{◌≡◌, refl, sym, ◌∙◌, ap, ap₂}
 use Prim.Native.Nat.{ℕ, suc, ◌+◌, ◌*◌, ◌-◌, ◌≤◌, ◌<◌}
 use native.Mathlib.Nat.{add-zero}
 use native.Mathlib.Numerals.{add-one}
+use native.Mathlib.Decide.{dec_lt}
 use native.Mathlib.Omega.{arith}
 use lib.ListN.{length, get_or, take, drop, length-append, length-drop}
 use lib.Seq.{take_all}
 use Rattle.limits.specs.Limits.{most_operations}
 use Rattle.answers.specs.Verdict.{accepted}
+use Rattle.clifford.specs.declared.Gate.{Gate}
+use Rattle.clifford.specs.declared.After.{After}
 use Rattle.clifford.specs.declared.Op.{Op}
 use Rattle.clifford.specs.declared.Op.TheVariants.{Gate as apply, Measure as measure}
 use Rattle.clifford.specs.declared.Outcome.{Outcome}
@@ -17,14 +20,16 @@ use Rattle.circuit.specs.Parts.Reading.{Stands}
 use Rattle.circuit.specs.Text.{operations, measures, count_measured}
 use Rattle.circuit.proofs.Positions.{front}
 use Rattle.circuit.proofs.Walk.{next_at, never_malformed, none_left, within_room}
-use Rattle.circuit_writer.specs.Parts.Storing.{Stores}
-use Rattle.circuit_writer.proofs.Storing.{stored_then, stored_as}
+use Rattle.lines.specs.declared.Lines.{Lines}
+use Rattle.lines.specs.Decimal.{decimal}
+use Rattle.lines.specs.Parts.Putting.{Puts}
+use Rattle.lines.proofs.Digits.{decimal_few}
+use Rattle.lines.proofs.Putting.{puts_none, puts_then, puts_as}
 use Rattle.records.proofs.Lengths.{square_below}
 use Rattle.walking.specs.Parts.Walk.{lines_of}
-use Rattle.print_lines.specs.Line.{spaced, decimal, kind_word, value_word, outcome_line}
+use Rattle.print_lines.specs.Line.{spaced, kind_word, value_word, outcome_line}
 use Rattle.print_lines.specs.Rows.{parts_closed}
-use Rattle.print_lines.proofs.Digits.{digits_few}
-use Rattle.print_lines.proofs.Putting.{kind_few, value_one, put_nothing}
+use Rattle.print_lines.proofs.Words.{kind_few, value_one}
 use Rattle.print.specs.Printed.{outcome_lines}
 use Rattle.print.specs.Parts.Sheets.{outcome_told, op_text, sheet_lines, Ready}
 
@@ -45,7 +50,7 @@ line_length line a o =
 
 op_few : (line : ℕ) (op : Op) (o : Outcome) → length (op_text line op o) ≤ 51
 op_few line (apply g) o = omega arith
-op_few line (measure f a) o = omega (arith, line_length line a o, digits_few 20 line, digits_few 20 a, kind_few o.random)
+op_few line (measure f a) o = omega (arith, line_length line a o, decimal_few line, decimal_few a, kind_few o.random)
 
 -- one operation's line, and those behind it
 op_first : (line : ℕ) (op : Op) (ops : List Op) (sheet : List ℕ) (k : ℕ) → k < length sheet
@@ -53,19 +58,20 @@ op_first : (line : ℕ) (op : Op) (ops : List Op) (sheet : List ℕ) (k : ℕ) �
 op_first line (apply g) ops sheet k h = ap (λ (m : ℕ). outcome_lines (suc line) ops (map outcome_told (drop m sheet))) (sym (add-zero k))
 op_first line (measure f a) ops sheet k h = ap (λ (s : List ℕ). outcome_lines line (measure f a ∷ ops) (map outcome_told s)) (front sheet k h)
 
-pub record Printing (text : List ℕ) (body n : ℕ) (sheet old out : List ℕ) (at line k next : ℕ) : Type 0 where
+-- the lines of the operations that stand before this position are put, and the rest of the record tells those behind it
+pub record Printing (text : List ℕ) (body n : ℕ) (sheet : List ℕ) (before after : Lines) (at line k : ℕ) : Type 0 where
   pub ops : List Op
   pub room : ℕ
   pub left : operations n room line (drop at text) ≡ accepted ops
   pub done : List ℕ
-  pub stored : Stores done old 0 out next
+  pub puts : Puts done before after
   pub so_far : outcome_lines 2 (lines_of n body text) (map outcome_told sheet) ≡ done ++ outcome_lines line ops (map outcome_told (drop k sheet))
   pub count : k + count_measured ops ≡ count_measured (lines_of n body text)
-  pub size : next + 51 * length ops ≤ 51 * most_operations
+  pub size : after.at + 51 * length ops ≤ before.at + 51 * most_operations
   pub lines : line + length ops ≤ most_operations + 2
 
-module _ (text : List ℕ) (body n : ℕ) (sheet old : List ℕ) (r : Ready text body n sheet) where
-  pub print_begin : Printing text body n sheet old old body 2 0 0
+module _ (text : List ℕ) (body n : ℕ) (sheet : List ℕ) (before : Lines) (r : Ready text body n sheet) where
+  pub print_begin : Printing text body n sheet before before body 2 0
   print_begin =
       let k = within_room n most_operations 2 (drop body text) (lines_of n body text) r.lines in
       record {
@@ -73,7 +79,7 @@ module _ (text : List ℕ) (body n : ℕ) (sheet old : List ℕ) (r : Ready text
         room = most_operations;
         left = r.lines;
         done = [];
-        stored = put_nothing old 0;
+        puts = puts_none before;
         so_far = refl;
         count = omega arith;
         size = omega (arith, k);
@@ -84,22 +90,23 @@ module _ (text : List ℕ) (body n : ℕ) (sheet old : List ℕ) (r : Ready text
   rows_some : 1 ≤ (n + n) * (n + 1)
   rows_some = omega (arith, r.some_qubits)
 
-  module _ (out : List ℕ) (at line k next : ℕ) (w : Printing text body n sheet old out at line k next) where
+  module _ (after : Lines) (at line k : ℕ) (w : Printing text body n sheet before after at line k) where
     pub print_mark : k < length sheet
     print_mark = omega (arith, w.count, r.room, rows_some)
 
-    pub print_whole : at < length text → op_line (drop at text) ≡ malformed → ⊥
-    print_whole l e = never_malformed n w.room line text at w.ops w.left l e
+    module _ (op : Op) (behind : ℕ) (s : Stands op_line text at op behind) where
+      within : at < length text
+      within = omega (arith, s.after, s.within)
 
-    module _ (l : at < length text) (op : Op) (behind : ℕ) (s : Stands op_line text at op behind) where
-      pub print_room : next + 51 ≤ 51 * most_operations
+      pub print_room : after.at + 51 ≤ before.at + 51 * most_operations
       print_room =
-          let q = next_at n w.room line text at w.ops w.left op behind l s in
+          let q = next_at n w.room line text at w.ops w.left op behind within s in
           omega (arith, ap length q.ops_is, w.size)
 
-      pub print_on : (new : List ℕ) (last : ℕ) → Stores (op_text line op (outcome_told (get_or sheet k 0))) out next new last → Printing text body n sheet old new behind (line + 1) (k + measures op) last
-      print_on new last p =
-          let q = next_at n w.room line text at w.ops w.left op behind l s in
+      -- one operation more
+      print_on : (new : Lines) → Puts (op_text line op (outcome_told (get_or sheet k 0))) after new → Printing text body n sheet before new behind (line + 1) (k + measures op)
+      print_on new p =
+          let q = next_at n w.room line text at w.ops w.left op behind within s in
           let t = op_text line op (outcome_told (get_or sheet k 0)) in
           let u : length w.ops ≡ suc (length q.more) = ap length q.ops_is in
           rw (add-one line) (record {
@@ -107,7 +114,7 @@ module _ (text : List ℕ) (body n : ℕ) (sheet old : List ℕ) (r : Ready text
             room = q.left;
             left = q.goes_on;
             done = w.done ++ t;
-            stored = stored_then w.stored p;
+            puts = puts_then w.puts p;
             so_far =
                 w.so_far ∙ ap (λ (o : List Op). w.done ++ outcome_lines line o (map outcome_told (drop k sheet))) q.ops_is
                 ∙ ap (λ (x : List ℕ). w.done ++ x) (op_first line op q.more sheet k print_mark)
@@ -117,26 +124,41 @@ module _ (text : List ℕ) (body n : ℕ) (sheet old : List ℕ) (r : Ready text
             lines = omega (arith, u, w.lines);
           })
 
-    module _ (l : length text ≤ at) where
-      ended : w.ops ≡ []
-      ended = none_left n w.room line text at w.ops w.left l
+    pub print_gate : (g : Gate) (behind : ℕ) → Stands op_line text at (apply g) behind → Printing text body n sheet before after behind (line + 1) k
+    print_gate g behind s = rw add-zero at (print_on (apply g) behind s after (puts_none after))
 
-      pub print_count : k ≡ count_measured (lines_of n body text)
+    pub print_outcome :
+        (f : After) (a behind : ℕ) → Stands op_line text at (measure f a) behind → (new : Lines) → Puts (outcome_line line a (outcome_told (get_or sheet k 0))) after new
+        → Printing text body n sheet before new behind (line + 1) (k + 1)
+    print_outcome f a behind s = print_on (measure f a) behind s
+
+    module _ (e : op_line (drop at text) ≡ malformed) where
+      past : length text ≤ at
+      past = go (dec_lt at (length text))
+        where
+          go : Dec (at < length text) → length text ≤ at
+          go (yes l) = absurd (never_malformed n w.room line text at w.ops w.left l e)
+          go (no m) = omega arith
+
+      ended : w.ops ≡ []
+      ended = none_left n w.room line text at w.ops w.left past
+
+      print_count : k ≡ count_measured (lines_of n body text)
       print_count = omega (arith, w.count, ap count_measured ended)
 
       pub print_rows : (n + n) * (n + 1) ≤ length (take (length sheet - k) (drop k sheet))
       print_rows = rw (take_all (length sheet - k) (drop k sheet) (omega (arith, length-drop k sheet))) (omega (arith, length-drop k sheet, print_count, r.room))
 
-      pub print_small : next + ((n + n) * (n + 1) + (n + n)) ≤ 1000000
+      pub print_small : after.at + ((n + n) * (n + 1) + (n + n)) ≤ before.at + 1000000
       print_small = omega (arith, w.size, square_below n r.few_qubits, r.few_qubits)
 
-      pub print_end : (new : List ℕ) (last : ℕ) → Stores (parts_closed (n + 1) (take (length sheet - k) (drop k sheet)) (n + n)) out next new last → Stores (sheet_lines (lines_of n body text) n sheet) old 0 new last
+      pub print_end : (new : Lines) → Puts (parts_closed (n + 1) (take (length sheet - k) (drop k sheet)) (n + n)) after new → Puts (sheet_lines (lines_of n body text) n sheet) before new
       unfolding sheet_lines
-      print_end new last p =
+      print_end new p =
           let rows = take (length sheet - k) (drop k sheet) in
           let e : rows ≡ drop k sheet = take_all (length sheet - k) (drop k sheet) (omega (arith, length-drop k sheet)) in
           let a : outcome_lines 2 (lines_of n body text) (map outcome_told sheet) ≡ w.done =
           w.so_far ∙ ap (λ (o : List Op). w.done ++ outcome_lines line o (map outcome_told (drop k sheet))) ended ∙ append-nil w.done in
           let b : parts_closed (n + 1) (drop (count_measured (lines_of n body text)) sheet) (n + n) ≡ parts_closed (n + 1) rows (n + n) =
           ap (λ (s : List ℕ). parts_closed (n + 1) s (n + n)) (ap (λ (m : ℕ). drop m sheet) (sym print_count) ∙ sym e) in
-          stored_as (ap₂ ◌++◌ a b) (stored_then w.stored p)
+          puts_as (ap₂ ◌++◌ a b) (puts_then w.puts p)

@@ -1,79 +1,96 @@
--- The first line of an input and what stands behind it, found byte by byte; and a text that was put whole. Assumes nothing.
-use mathlib.Core.Bool.{cond}
-use mathlib.Core.List.{List, [], ◌∷◌, ◌++◌, append-nil, append_assoc}
-use mathlib.Core.Path.{◌≡◌, refl, sym, ◌∙◌, ap}
-use Prim.Native.Nat.{ℕ, ◌+◌, ◌-◌, ◌≤◌, ◌<◌}
-use native.Mathlib.Nat.{zero-add}
+-- The first line of an input and what stands behind it; and a text that was put from the front on. Assumes nothing.
+use mathlib.Core.Bool.{Bool, true, false, cond, not}
+use mathlib.Core.List.{List, [], ◌∷◌, ◌++◌}
+use mathlib.Core.Path.{◌≡◌, refl, sym, ◌∙◌, ap, ap₂}
+use Prim.Native.Nat.{ℕ, suc, ◌+◌, ◌-◌, ◌≤◌, ◌<◌}
+use native.Mathlib.Numerals.{one-add}
 use native.Mathlib.Omega.{arith}
-use borrow.Author.Tests.{eq-eqb, ne_eqb, lt-ltb, le-ltb}
-use lib.ListN.{length, get_or, take, drop, length-drop}
-use lib.Seq.{take-suc, sets-eq, take_all}
-use native.Mathlib.Numerals.{add-one}
-use Rattle.answers.specs.declared.Written.{Written}
-use Rattle.answers.specs.declared.Written.TheVariants.{Bytes, Refused}
+use borrow.Author.Tests.{lt-ltb, le-ltb}
+use lib.Dec.{eqb}
+use lib.ListN.{length, take, drop, length-drop}
+use lib.Seq.{sets-eq, take_all}
+use Rattle.std.specs.Prelude.{Option, None, Some, Result, Ok, Err, nat_lt, position}
+use Rattle.std.specs.List.{position_or_len}
+use Rattle.std.proofs.lemmas.List.{drop_all}
+use Rattle.answers.specs.declared.Refusal.{Refusal}
 use Rattle.answers.specs.declared.Refusal.TheVariants.{NoRoom}
 use Rattle.answers.specs.Verdict.{accepted}
 use Rattle.answers.specs.Refusals.{Writes}
 use Rattle.answers.proofs.Answered.{has_no_room, has_written}
 use Rattle.answers.proofs.Known.{writes_one}
-use Rattle.circuit.proofs.Positions.{front, past}
-use Rattle.circuit_writer.specs.Parts.Storing.{Stores}
+use Rattle.lines.specs.declared.Lines.{Lines}
+use Rattle.lines.specs.Parts.Putting.{Puts}
 use Rattle.print.specs.Printed.{first_line, behind_first_line, printed, too_long, shot_printed}
-use Rattle.print.specs.Parts.Sheets.{Split}
 
--- no end byte among the first k bytes
-pub record Unended (input : List ℕ) (k : ℕ) : Type 0 where
-  pub within : k ≤ length input
-  pub before : first_line input ≡ take k input ++ first_line (drop k input)
-  pub behind : behind_first_line input ≡ behind_first_line (drop k input)
+-- a text that was put from the front on, in a buffer that is handed back, and where it is too long for the buffer
+pub put_front :
+    (text lines back : List ℕ) (before after : Lines)
+    → text ≡ lines → before.at ≡ 0 → Puts lines before after → after.at ≤ length before.out.now → back ≡ after.out.now → Writes (accepted text) before.out.now (Ok after.at) back
+put_front text lines back before after same z p h b =
+    let n : after.at ≡ length text = omega (arith, p.next_is, z, ap length same) in
+    has_written (accepted text) before.out.now text after.at back refl (omega arith) n
+    (b ∙ p.stored ∙ sets-eq lines before.out.now before.at (omega (arith, p.next_is)) ∙ whole)
+  where
+    whole : take before.at before.out.now ++ lines ++ drop (before.at + length lines) before.out.now ≡ text ++ drop (length text) before.out.now
+    whole =
+        let e : before.at + length lines ≡ length text = omega (arith, z, ap length same) in
+        λ i. take (z i) before.out.now ++ sym same i ++ drop (e i) before.out.now
 
-pub none_seen : (input : List ℕ) → Unended input 0
-none_seen input = record { within = omega arith; before = refl; behind = refl }
+pub too_short : (text old : List ℕ) → length old < length text → Writes (accepted text) old (Err NoRoom) old
+too_short text old h = has_no_room (accepted text) old text refl h
 
-module _ (input : List ℕ) (k : ℕ) (u : Unended input k) where
-  pub one_more : k < length input → (get_or input k 0 ≡ 10 → ⊥) → Unended input (k + 1)
-  one_more h e =
-      let n = ne_eqb (get_or input k 0) 10 e in
-      let a : first_line (drop k input) ≡ get_or input k 0 ∷ first_line (drop (k + 1) input) =
-      ap first_line (front input k h) ∙ ap (λ b. cond b [] (get_or input k 0 ∷ first_line (drop (k + 1) input))) n in
-      record {
-        within = omega arith;
-        before =
-            u.before ∙ ap (λ (s : List ℕ). take k input ++ s) a ∙ sym (append_assoc (take k input) (get_or input k 0 ∷ []) (first_line (drop (k + 1) input)))
-            ∙ ap (λ (s : List ℕ). s ++ first_line (drop (k + 1) input)) (sym (ap (λ (n : ℕ). take n input) (add-one k) ∙ take-suc input k 0 h));
-        behind = u.behind ∙ ap behind_first_line (front input k h) ∙ ap (λ b. cond b (drop (k + 1) input) (behind_first_line (drop (k + 1) input))) n;
-      }
+-- the promises of `print` and `shot` leave no choice of answer or bytes
+pub one_print : (text old : List ℕ) (r s : Result ℕ Refusal) (new last : List ℕ) → Writes (accepted text) old r new → Writes (accepted text) old s last → (r ≡ s) × (new ≡ last)
+one_print text = writes_one (accepted text)
 
-  pub ends_here : k < length input → get_or input k 0 ≡ 10 → Split input k
-  ends_here h e =
-      let n = eq-eqb (get_or input k 0) 10 e in
-      record {
-        within = u.within;
-        before =
-            u.before ∙ ap (λ (s : List ℕ). take k input ++ s) (ap first_line (front input k h) ∙ ap (λ b. cond b [] (get_or input k 0 ∷ first_line (drop (k + 1) input))) n)
-            ∙ append-nil (take k input);
-        behind = u.behind ∙ ap behind_first_line (front input k h) ∙ ap (λ b. cond b (drop (k + 1) input) (behind_first_line (drop (k + 1) input))) n;
-      }
+abbrev ends_line : ℕ → Bool
+ends_line b = eqb b 10
 
-  pub never_ends : length input ≤ k → Split input k
-  never_ends h = record {
-    within = u.within;
-    before = u.before ∙ ap (λ (s : List ℕ). take k input ++ s) (ap first_line (past input k h)) ∙ append-nil (take k input);
-    behind = u.behind ∙ ap behind_first_line (past input k h) ∙ sym (past input (k + 1) (omega arith));
-  }
+first_is : (s : List ℕ) → first_line s ≡ take (position_or_len ends_line s) s
+first_is [] = refl
+first_is (b ∷ s) = go (eqb b 10) (first_is s)
+  where
+    go : (e : Bool) → first_line s ≡ take (position_or_len ends_line s) s → cond e [] (b ∷ first_line s) ≡ take (cond (not e) (1 + position_or_len ends_line s) 0) (b ∷ s)
+    go true h = refl
+    go false h = rw one-add (ap (λ (t : List ℕ). b ∷ t) h)
 
--- a text that was measured first, and then put where it fits
-pub measured_as : (text lines blank new : List ℕ) (size : ℕ) → text ≡ lines → Stores lines blank 0 new size → size ≡ length text
-measured_as text lines blank new size e s = s.next_is ∙ zero-add (length lines) ∙ sym (ap length e)
+behind_is : (s : List ℕ) → behind_first_line s ≡ drop (position_or_len ends_line s + 1) s
+behind_is [] = refl
+behind_is (b ∷ s) = go (eqb b 10) (behind_is s)
+  where
+    go : (e : Bool) → behind_first_line s ≡ drop (position_or_len ends_line s + 1) s → cond e s (behind_first_line s) ≡ drop (cond (not e) (1 + position_or_len ends_line s) 0 + 1) (b ∷ s)
+    go true h = refl
+    go false h = let e : 1 + position_or_len ends_line s + 1 ≡ suc (position_or_len ends_line s + 1) = omega arith in rw e h
 
-module _ (text old : List ℕ) where
-  pub too_short : (size : ℕ) → size ≡ length text → length old < size → Writes (accepted text) old (Refused NoRoom) old
-  too_short size e h = has_no_room (accepted text) old text refl (omega arith)
+-- the first line ends here, and the rest stands behind
+record Split (input : List ℕ) (end : ℕ) : Type 0 where
+  within : end < length input
+  before : first_line input ≡ take end input
+  behind : behind_first_line input ≡ drop (end + 1) input
 
-  pub put_all : (new : List ℕ) (size : ℕ) → length text ≤ length old → Stores text old 0 new size → Writes (accepted text) old (Bytes size) new
-  put_all new size h s =
-      let z = zero-add (length text) in
-      has_written (accepted text) old text size new refl h (s.next_is ∙ z) (s.stored ∙ sets-eq text old 0 (omega arith) ∙ ap (λ (k : ℕ). text ++ drop k old) z)
+split_at : (input : List ℕ) (end : ℕ) → Some end ≡ position ends_line input → Split input end
+split_at input end e = go (nat_lt (position_or_len ends_line input) (length input)) refl
+  where
+    go : (b : Bool) → nat_lt (position_or_len ends_line input) (length input) ≡ b → Split input end
+    go true t =
+        let u : Some end ≡ Some (position_or_len ends_line input) = e ∙ rw t in
+        let k : end ≡ position_or_len ends_line input = cc in
+        let h : position_or_len ends_line input < length input = grind arith in
+        record { within = omega (arith, h, k); before = first_is input ∙ rw k; behind = behind_is input ∙ rw k }
+    go false t = let u : Some end ≡ None = e ∙ rw t in cc
+
+record Unsplit (input : List ℕ) : Type 0 where
+  before : first_line input ≡ input
+  behind : behind_first_line input ≡ []
+
+unsplit : (input : List ℕ) → None ≡ position ends_line input → Unsplit input
+unsplit input e = go (nat_lt (position_or_len ends_line input) (length input)) refl
+  where
+    go : (b : Bool) → nat_lt (position_or_len ends_line input) (length input) ≡ b → Unsplit input
+    go true t = let u : None ≡ Some (position_or_len ends_line input) = e ∙ rw t in cc
+    go false t =
+        let h : length input ≤ position_or_len ends_line input = grind arith in
+        record { before = first_is input ∙ take_all (position_or_len ends_line input) input h; behind = behind_is input ∙ drop_all (position_or_len ends_line input + 1) input (omega (arith, h)) }
 
 -- what the program prints
 pub prints_too_long : (input : List ℕ) → 60000 < length input → shot_printed input ≡ too_long
@@ -82,18 +99,14 @@ prints_too_long input h = ap (λ b. cond b too_long (printed (behind_first_line 
 
 prints : (input coins circuit : List ℕ) → length input ≤ 60000 → first_line input ≡ coins → behind_first_line input ≡ circuit → shot_printed input ≡ printed circuit coins
 unfolding shot_printed
-prints input coins circuit h a b =
-    ap (λ t. cond t too_long (printed (behind_first_line input) (first_line input))) (le-ltb 60000 (length input) h) ∙ ap (λ (s : List ℕ). printed s (first_line input)) b ∙ ap (printed circuit) a
+prints input coins circuit h a b = ap (λ t. cond t too_long (printed (behind_first_line input) (first_line input))) (le-ltb 60000 (length input) h) ∙ ap₂ printed b a
 
-module _ (input : List ℕ) (at : ℕ) (h : length input ≤ 60000) (s : Split input at) where
-  pub prints_split : shot_printed input ≡ printed (take (length input - (at + 1)) (drop (at + 1) input)) (take at input)
-  prints_split =
-      prints input (take at input) (take (length input - (at + 1)) (drop (at + 1) input)) h s.before
-      (s.behind ∙ sym (take_all (length input - (at + 1)) (drop (at + 1) input) (omega (arith, length-drop (at + 1) input))))
+module _ (input : List ℕ) where
+  pub prints_split : (end : ℕ) → length input ≤ 60000 → Some end ≡ position ends_line input → shot_printed input ≡ printed (take (length input - (end + 1)) (drop (end + 1) input)) (take end input)
+  prints_split end h e =
+      let s = split_at input end e in
+      prints input (take end input) (take (length input - (end + 1)) (drop (end + 1) input)) h s.before
+      (s.behind ∙ sym (take_all (length input - (end + 1)) (drop (end + 1) input) (omega (arith, length-drop (end + 1) input))))
 
-  pub prints_coins : length input < at + 1 → shot_printed input ≡ printed [] input
-  prints_coins l = prints input input [] h (s.before ∙ take_all at input (omega arith)) (s.behind ∙ past input (at + 1) (omega arith))
-
--- the promises of `print` and `shot` leave no choice of answer or bytes
-pub one_print : (text old : List ℕ) (r s : Written) (new last : List ℕ) → Writes (accepted text) old r new → Writes (accepted text) old s last → (r ≡ s) × (new ≡ last)
-one_print text = writes_one (accepted text)
+  pub prints_coins : length input ≤ 60000 → None ≡ position ends_line input → shot_printed input ≡ printed [] input
+  prints_coins h e = let s = unsplit input e in prints input input [] h s.before s.behind

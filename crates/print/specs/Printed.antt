@@ -1,7 +1,8 @@
 -- What a run prints, and what the program `shot` prints: document 01, its last example. Assumes nothing.
-use Rattle.std.specs.Prelude.{cond, List, [], ◌∷◌, ◌++◌, ℕ, suc, ◌*◌, ◌+◌, eqb, ltb, length}
+use Rattle.std.specs.Prelude.{cond, List, [], ◌∷◌, ◌++◌, ℕ, suc, ◌*◌, ◌+◌, eqb, ltb, length, Result}
 use Rattle.limits.specs.Limits.{most_qubits, most_operations}
 use Rattle.answers.specs.Verdict.{Verdict, accepted, refused, then}
+use Rattle.answers.specs.declared.Refusal.{Refusal}
 use Rattle.pauli.specs.Rows.{Row}
 use Rattle.pauli.specs.Texts.{listed, row_text}
 use Rattle.clifford.specs.declared.Op.{Op}
@@ -12,6 +13,7 @@ use Rattle.clifford.specs.Run.{State, run, begin}
 use Rattle.circuit.specs.Lines.{end_byte}
 use Rattle.circuit.specs.Text.{Circuit, meaning}
 use Rattle.records.specs.Record.{joined}
+use Rattle.run.specs.declared.Ran.{Ran}
 use Rattle.run.specs.Run.{Runs}
 use Rattle.print_lines.specs.Line.{outcome_line, refusal_line}
 
@@ -43,7 +45,7 @@ unfoldable pub printed : List ℕ → List ℕ → List ℕ
 printed text coins = or_refusal (then (meaning text) (λ c. then (run c.qubits 2 c.ops (begin c.qubits coins)) (λ e. accepted (run_lines c e))))
 
 -- the run's own promise, but for the rest of the coins, which is not handed back
-pub record Recorded (text coins old answer new : List ℕ) : Type 0 where
+pub record Recorded (text coins old : List ℕ) (answer : Result Ran Refusal) (new : List ℕ) : Type 0 where
   pub rest : List ℕ
   pub runs : Runs text coins old answer rest new
 

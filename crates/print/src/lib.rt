@@ -2,157 +2,140 @@
 // of the program `shot` holds the coins in its first line and the circuit behind it.
 #![tactic(auto)]
 
-ghost use Rattle.std.specs.Prelude.{◌+◌, ◌≤◌, length};
+ghost use Rattle.std.specs.Prelude.{◌≡◌, ◌≤◌, eqb, length, position};
 ghost use Rattle.answers.specs.Verdict.{accepted};
 ghost use Rattle.answers.specs.Refusals.{Writes};
-ghost use Rattle.circuit_writer.specs.Parts.Storing.{Stores};
+ghost use Rattle.lines.specs.Parts.Putting.{Puts};
 ghost use Rattle.walking.specs.Parts.Walk.{lines_of};
+ghost use Rattle.circuit.specs.Lines.{end_byte};
 ghost use Rattle.records.specs.Record.{longest_record};
 ghost use Rattle.print.specs.Printed.{printed, Recorded, too_long, shot_printed};
-ghost use Rattle.print.specs.Parts.Sheets.{outcome_told, op_text, sheet_lines, Ready, ReadyAs, shape_lines, Answered, Split};
+ghost use Rattle.print.specs.Parts.Sheets.{outcome_told, sheet_lines, Ready, ReadyAs, answer_lines, Answered};
 
-use answers::{Refusal, Written};
-use checking::Scanned;
-use circuit::Line;
-use clifford::Op;
+use answers::Refusal;
+use checking::Heading;
+use clifford::{Op, Outcome};
+use lines::Lines;
+use run::Ran;
 
-// How a run ended: its record is there, and its circuit's operation lines begin at body; or number and place of its refusal.
-#[derive(Clone, Copy)]
-enum Shape {
-    Ran { qubits: usize, body: usize },
-    Refused(usize, usize),
-}
+// The longest input that `shot` runs.
+pub const MOST_INPUT: usize = 60000;
 
-fn put_op(out: &mut [u8], at: usize, line: usize, op: Op, mark: u8) -> usize
-    requires { at + 51 ≤ 1000000 }
-    ensures { Stores (op_text line op (outcome_told mark)) out.old at out.new result }
+// The outcome of a character of the record.
+fn outcome(mark: u8) -> Outcome
+    ensures { result ≡ outcome_told mark }
 {
-    match op {
-        Op::Gate(_) => at,
-        Op::Measure(_, a) => {
-            let random = 50 <= mark;
-            let value = mark % 2 == 1;
-            print_lines::put_outcome(out, at, line, a, random, value)
-        }
+    Outcome {
+        random: mark >= b'2',
+        value: mark % 2 == 1,
     }
 }
 
-fn put_run(out: &mut [u8], text: &[u8], body: usize, n: usize, sheet: &[u8]) -> usize
-    requires { Ready text.now body n sheet.now }
-    ensures { Stores (sheet_lines (lines_of n body text.now) n sheet.now) out.old 0 out.new result }
+fn put_run(lines: &mut Lines, text: &[u8], heading: Heading, sheet: &[u8])
+    requires at_front { lines.old.at ≡ 0 }
+    requires ready { Ready text.now heading.body heading.qubits sheet.now }
+    ensures { Puts (sheet_lines (lines_of heading.qubits heading.body text.now) heading.qubits sheet.now) lines.old lines.new }
 {
-    let mut at = body;
+    let mut at = heading.body;
     let mut line: usize = 2;
-    let mut k = 0;
-    let mut next = 0;
-    while at < text.len() {
-        match circuit::line_at(text, at) {
-            Line::Op(op, behind) => {
-                next = put_op(out, next, line, op, sheet[k]);
-                k += circuit::one_if_measure(op);
-                at = behind;
-                line += 1;
-            }
-            Line::Malformed => {
-                return next;
-            }
+    let mut measured = 0;
+    while let Some((op, behind)) = circuit::line_at(text, at) {
+        if let Op::Measure(_, qubit) = op {
+            print_lines::put_outcome(lines, line, qubit, outcome(sheet[measured]));
+            measured += 1;
         }
+        at = behind;
+        line += 1;
     }
-    print_lines::put_rows(out, next, &sheet[k..], n + 1, n + n)
+    let n = heading.qubits;
+    print_lines::put_rows(lines, &sheet[measured..], n + 1, n + n);
 }
 
-fn put_shape(out: &mut [u8], text: &[u8], shape: Shape, sheet: &[u8]) -> usize
-    requires { ReadyAs text.now shape sheet.now }
-    ensures { Stores (shape_lines text.now shape sheet.now) out.old 0 out.new result }
+fn put_answer(lines: &mut Lines, text: &[u8], ran: Result<Heading, Refusal>, sheet: &[u8])
+    requires at_front { lines.old.at ≡ 0 }
+    requires ready { ReadyAs text.now ran sheet.now }
+    ensures { Puts (answer_lines text.now ran sheet.now) lines.old lines.new }
 {
-    match shape {
-        Shape::Ran { qubits, body } => put_run(out, text, body, qubits, sheet),
-        Shape::Refused(number, place) => print_lines::put_refusal(out, number, place),
+    match ran {
+        Ok(heading) => put_run(lines, text, heading, sheet),
+        Err(refusal) => print_lines::put_refusal(lines, refusal),
     }
 }
 
-fn answered(text: &[u8], coins: &[u8], sheet: &mut [u8], answer: &mut [u64; 6]) -> Shape
+// Where the operation lines of a run begin that came to its end.
+fn answered(
+    text: &[u8],
+    coins: &[u8],
+    sheet: &mut [u8],
+    answer: &mut Result<Ran, Refusal>,
+) -> Result<Heading, Refusal>
     requires { longest_record ≤ length sheet.old }
     ensures { Answered text.now coins.now sheet.old answer.new result sheet.new }
 {
     run::run(text, coins, sheet, answer);
-    match checking::scan(text) {
-        Scanned::Circuit {
-            qubits,
-            operations: _,
-            measured: _,
-            body,
-        } => {
-            if answer[0] == 0 {
-                return Shape::Ran { qubits, body };
-            }
-            Shape::Refused(answer[0] as usize, answer[1] as usize)
-        }
-        Scanned::Refused(r) => Shape::Refused(answers::number(r) as usize, answers::place(r)),
-    }
+    (*answer)?;
+    checking::head(text)
 }
 
-// One run for both: its record goes to the lent sheet and its numbers to the answer, as `run::run` puts them, and what it prints goes to the buffer.
+// One run for both: its record goes to the lent sheet, its size and tally to the answer, as `run::run` puts them, and what it prints to the buffer.
 pub fn run_and_print(
     circuit: &[u8],
     coins: &[u8],
     sheet: &mut [u8; limits::LONGEST_RECORD],
-    answer: &mut [u64; 6],
+    answer: &mut Result<Ran, Refusal>,
     out: &mut [u8],
-) -> Written
+) -> Result<usize, Refusal>
     ensures recorded { Recorded circuit.now coins.now sheet.old answer.new sheet.new }
     ensures printed { Writes (accepted (printed circuit.now coins.now)) out.old result out.new }
 {
-    let shape = answered(circuit, coins, sheet, answer);
-    let mut nowhere = [0u8; 1];
-    let size = put_shape(&mut nowhere, circuit, shape, sheet);
-    if out.len() < size {
-        return Written::Refused(Refusal::NoRoom);
+    let ran = answered(circuit, coins, sheet, answer);
+    let mut measure = Lines {
+        out: &mut [],
+        at: 0,
+    };
+    put_answer(&mut measure, circuit, ran, sheet);
+    if out.len() < measure.at {
+        return Err(Refusal::NoRoom);
     }
-    Written::Bytes(put_shape(out, circuit, shape, sheet))
+    let mut lines = Lines { out, at: 0 };
+    put_answer(&mut lines, circuit, ran, sheet);
+    Ok(lines.at)
 }
 
-pub fn print(circuit: &[u8], coins: &[u8], out: &mut [u8]) -> Written
+pub fn print(circuit: &[u8], coins: &[u8], out: &mut [u8]) -> Result<usize, Refusal>
     ensures { Writes (accepted (printed circuit.now coins.now)) out.old result out.new }
 {
     let mut sheet = [0u8; limits::LONGEST_RECORD];
-    let mut answer = [0u64; 6];
+    let mut answer = Err(Refusal::NoRecord); // until the run answers
     run_and_print(circuit, coins, &mut sheet, &mut answer, out)
 }
 
-// Where the first line ends, or the end.
-fn first_end(input: &[u8]) -> usize
-    ensures { Split input.now result }
-{
-    let mut k = 0;
-    while k < input.len() {
-        if input[k] == 10 {
-            return k;
-        }
-        k += 1;
-    }
-    k
-}
-
-fn put_too_long(out: &mut [u8]) -> Written
+fn put_too_long(out: &mut [u8]) -> Result<usize, Refusal>
     ensures { Writes (accepted too_long) out.old result out.new }
 {
-    if out.len() < 15 {
-        return Written::Refused(Refusal::NoRoom);
+    let text = b"input too long\n";
+    if out.len() < text.len() {
+        return Err(Refusal::NoRoom);
     }
-    Written::Bytes(print_lines::put_text(out, 0, b"input too long\n"))
+    out[..text.len()].copy_from_slice(text);
+    Ok(text.len())
 }
 
-pub fn shot(input: &[u8], out: &mut [u8]) -> Written
+// Where the first line ends.
+fn first_end(input: &[u8]) -> Option<usize>
+    ensures { result ≡ position (λ b. eqb b end_byte) input.now }
+{
+    input.iter().position(|b| *b == b'\n')
+}
+
+pub fn shot(input: &[u8], out: &mut [u8]) -> Result<usize, Refusal>
     ensures { Writes (accepted (shot_printed input.now)) out.old result out.new }
 {
-    if 60000 < input.len() {
+    if MOST_INPUT < input.len() {
         return put_too_long(out);
     }
-    let end = first_end(input);
-    let behind = end + 1;
-    if behind <= input.len() {
-        return print(&input[behind..], &input[..end], out);
+    match first_end(input) {
+        Some(end) => print(&input[end + 1..], &input[..end], out),
+        None => print(b"", input, out),
     }
-    print(b"", input, out)
 }

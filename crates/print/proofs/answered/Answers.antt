@@ -1,31 +1,13 @@
 -- `print::answered` meets its contract. Assumes nothing.
-use Rattle.print.proofs.Ended.{ran, refused_as, prints_refusal}
-use borrow.Author.Rules.{rules}
+use Rattle.std.proofs.lemmas.Result.{err_from_is_err_and}
+use Rattle.print.proofs.Ended.{answered_refusal, answered_lines}
 use Rattle.print.proofs.answered.Goals as goal
 
-pub returns-then-answer-eq0 : goal.returns-then-answer-eq0
-returns-then-answer-eq0 c =
-    let e = c in
-    let w = c.run.ensures in
-    let a = rw c.in-Circuit.is at c.scan.ensures in
-    record {
-      recorded = record { rest = _; runs = w };
-      shown = ran e.args.text.now e.args.coins.now e.args.sheet.now _ _ _ _ a e.requires _ _ _ w (search rules) c.if-answer-eq0.true;
-    }
+pub returns-in_err-answer : goal.returns-in_err-answer
+returns-in_err-answer c =
+    let p = err_from_is_err_and c.from_residual.result c.from_residual.ensures.1 in
+    rw (p.1, p.2, c.in_err-answer.was) (answered_refusal _ _ _ _ _ c.requires _ (rw c.in_err-answer.was at c.run.ensures))
 
-pub returns-else-answer-eq0 : goal.returns-else-answer-eq0
-returns-else-answer-eq0 c =
-    let e = c in
-    let w = c.run.ensures in
-    let a = rw c.in-Circuit.is at c.scan.ensures in
-    record {
-      recorded = record { rest = _; runs = w };
-      shown = refused_as e.args.text.now e.args.coins.now e.args.sheet.now _ _ _ _ a e.requires _ _ _ w c.if-answer-eq0.false;
-    }
-
-pub returns-in-Refused : goal.returns-in-Refused
-returns-in-Refused c =
-    record {
-      recorded = record { rest = _; runs = c.run.ensures };
-      shown = rw (c.number.ensures, c.place.ensures) (prints_refusal _ _ _ _ _ (rw c.in-Refused.is at c.scan.ensures));
-    }
+pub returns : goal.returns
+returns c =
+    rw c.in_ok-answer.was (answered_lines _ _ _ _ _ c.requires _ _ (rw c.in_ok-answer.was at c.run.ensures) c.head.ensures c.run.auto.record)

@@ -3,8 +3,8 @@ use lib.ListN.{length}
 use Rattle.print.proofs.Printing.{Printing}
 use Rattle.print.proofs.put_run.Given as goal
 
-abbrev pub invariant-loop-at : goal.invariant-loop-at
-invariant-loop-at l = Printing l.text l.body l.n l.sheet l.initial.out l.out l.at l.line l.k l.next
+abbrev pub invariant-loop-op : goal.invariant-loop-op
+invariant-loop-op l = Printing l.text l.heading.body l.heading.qubits l.sheet l.initial.lines l.lines l.at l.line l.measured
 
-abbrev pub decreases-loop-at : goal.decreases-loop-at
-decreases-loop-at l = length l.text - l.at
+abbrev pub decreases-loop-op : goal.decreases-loop-op
+decreases-loop-op l = length l.text - l.at

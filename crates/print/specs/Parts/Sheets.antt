@@ -1,7 +1,10 @@
 -- What the parts of the printer promise one another: the lines of a run, as its record holds them. Assumes nothing.
-use Rattle.std.specs.Prelude.{List, [], ◌++◌, map, ◌≡◌, ℕ, ◌+◌, ◌*◌, ◌%◌, ◌≤◌, eqb, leb, length, take, drop}
+use Rattle.std.specs.Prelude.{List, [], ◌++◌, map, ◌≡◌, ℕ, ◌+◌, ◌*◌, ◌%◌, ◌≤◌, eqb, leb, length, drop, Result, Ok, Err}
 use Rattle.limits.specs.Limits.{most_qubits, most_operations}
 use Rattle.answers.specs.Verdict.{accepted}
+use Rattle.answers.specs.declared.Refusal.{Refusal}
+use Rattle.answers.specs.Refusals.{number_of, place_of}
+use Rattle.checking.specs.declared.Heading.{Heading}
 use Rattle.clifford.specs.declared.Op.{Op}
 use Rattle.clifford.specs.declared.Op.TheVariants.{Gate as apply, Measure as measure}
 use Rattle.clifford.specs.declared.Outcome.{Outcome}
@@ -9,9 +12,8 @@ use Rattle.circuit.specs.Text.{operations, count_measured}
 use Rattle.walking.specs.Parts.Walk.{lines_of}
 use Rattle.print_lines.specs.Line.{outcome_line, refusal_line}
 use Rattle.print_lines.specs.Rows.{parts_closed}
-use Rattle.print.specs.declared.Shape.{Shape}
-use Rattle.print.specs.declared.Shape.TheVariants as shape
-use Rattle.print.specs.Printed.{outcome_lines, printed, Recorded, first_line, behind_first_line}
+use Rattle.run.specs.declared.Ran.{Ran}
+use Rattle.print.specs.Printed.{outcome_lines, printed, Recorded}
 
 -- the outcome of a character of the record
 abbrev pub outcome_told : ℕ → Outcome
@@ -33,25 +35,17 @@ pub record Ready (text : List ℕ) (body n : ℕ) (sheet : List ℕ) : Type 0 wh
   pub lines : operations n most_operations 2 (drop body text) ≡ accepted (lines_of n body text)
   pub room : count_measured (lines_of n body text) + (n + n) * (n + 1) ≤ length sheet
 
-abbrev pub ReadyAs : List ℕ → Shape → List ℕ → Type 0
-ReadyAs text (shape.Ran n body) sheet = Ready text body n sheet
-ReadyAs text (shape.Refused number place) sheet = Unit {0}
+abbrev pub ReadyAs : List ℕ → Result Heading Refusal → List ℕ → Type 0
+ReadyAs text (Ok h) sheet = Ready text h.body h.qubits sheet
+ReadyAs text (Err r) sheet = Unit {0}
 
-abbrev pub shape_lines : List ℕ → Shape → List ℕ → List ℕ
-shape_lines text (shape.Ran n body) sheet = sheet_lines (lines_of n body text) n sheet
-shape_lines text (shape.Refused number place) sheet = refusal_line number place
+-- what is printed of a run, from its record; or of its refusal
+abbrev pub answer_lines : List ℕ → Result Heading Refusal → List ℕ → List ℕ
+answer_lines text (Ok h) sheet = sheet_lines (lines_of h.qubits h.body text) h.qubits sheet
+answer_lines text (Err r) sheet = refusal_line (number_of r) (place_of r)
 
--- what is printed stands in the record, or is the refusal
-pub record Shown (text coins : List ℕ) (s : Shape) (sheet : List ℕ) : Type 0 where
-  pub ready : ReadyAs text s sheet
-  pub lines : printed text coins ≡ shape_lines text s sheet
-
-pub record Answered (text coins old answer : List ℕ) (s : Shape) (sheet : List ℕ) : Type 0 where
+-- a run that answered this and left this record prints what these lines are
+pub record Answered (text coins old : List ℕ) (answer : Result Ran Refusal) (ran : Result Heading Refusal) (sheet : List ℕ) : Type 0 where
   pub recorded : Recorded text coins old answer sheet
-  pub shown : Shown text coins s sheet
-
--- the first line of an input ends here
-pub record Split (input : List ℕ) (at : ℕ) : Type 0 where
-  pub within : at ≤ length input
-  pub before : first_line input ≡ take at input
-  pub behind : behind_first_line input ≡ drop (at + 1) input
+  pub ready : ReadyAs text ran sheet
+  pub lines : printed text coins ≡ answer_lines text ran sheet
