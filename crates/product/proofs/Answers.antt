@@ -16,7 +16,7 @@ use Rattle.pauli.specs.Rows.{phased, product, anticommute, minus_sign, times_row
 use Rattle.pauli.specs.Texts.{fits_at, spelled, row_text}
 use Rattle.pauli.proofs.RowLaws.{product-even}
 use Rattle.product.specs.Product.{longest_row, lengths_fit, listed_at, first_bad_of_two, multiplied, product_of}
-use Rattle.product.specs.Parts.Table.{power_number, first_bad, letter_text}
+use Rattle.product.specs.Parts.Table.{power_number, first_unlisted, letter_text}
 use Rattle.product.proofs.Laws.{number_odd, number_sign}
 
 -- what a search finds is the lowest
@@ -38,7 +38,7 @@ module _ (first second : List ℕ) where
         let e : length first + k - length first ≡ k = omega arith in
         rw (le-ltb (length first + k) (length first) (omega arith), e)
 
-    good_first : None ≡ first_bad first → (i : ℕ) → i < length first → not (listed_at first second i) ≡ false
+    good_first : None ≡ first_unlisted first → (i : ℕ) → i < length first → not (listed_at first second i) ≡ false
     good_first a i l = ap not (at_first i l) ∙ none_passes _ (length first) (sym a) i l
 
     good_second : (m : ℕ) → ((i : ℕ) → i < m → not (fits_at i (get_or second i 0)) ≡ false) → (i : ℕ) → length first ≤ i → i - length first < m → not (listed_at first second i) ≡ false
@@ -46,7 +46,7 @@ module _ (first second : List ℕ) where
         let e : length first + (i - length first) ≡ i = omega arith in
         ap (λ j. not (listed_at first second j)) (sym e) ∙ ap not (at_second (i - length first)) ∙ b (i - length first) l
 
-    either : None ≡ first_bad first → (m : ℕ) → ((i : ℕ) → i < m → not (fits_at i (get_or second i 0)) ≡ false) → (i : ℕ) → i < length first + m → not (listed_at first second i) ≡ false
+    either : None ≡ first_unlisted first → (m : ℕ) → ((i : ℕ) → i < m → not (fits_at i (get_or second i 0)) ≡ false) → (i : ℕ) → i < length first + m → not (listed_at first second i) ≡ false
     either a m b i l = go (dec_lt i (length first))
       where
         go : Dec (i < length first) → not (listed_at first second i) ≡ false
@@ -54,7 +54,7 @@ module _ (first second : List ℕ) where
         go (no q) = good_second m b i (omega arith) (omega arith)
 
     -- 10, in the first row
-    pub first_10 : (k : ℕ) → Some k ≡ first_bad first → product_of first second ≡ refused 10 k
+    pub first_10 : (k : ℕ) → Some k ≡ first_unlisted first → product_of first second ≡ refused 10 k
     first_10 k a =
         let l = found _ (length first) k a in
         fit ∙ ap (λ o. unless_at 10 o (multiplied (length first - 1) first second))
@@ -65,7 +65,7 @@ module _ (first second : List ℕ) where
         }))
 
     -- 10, in the second
-    pub second_10 : (m : ℕ) → None ≡ first_bad first → Some m ≡ first_bad second → product_of first second ≡ refused 10 (length first + m)
+    pub second_10 : (m : ℕ) → None ≡ first_unlisted first → Some m ≡ first_unlisted second → product_of first second ≡ refused 10 (length first + m)
     second_10 m a b =
         let l = found _ (length second) m b in
         fit ∙ ap (λ o. unless_at 10 o (multiplied (length first - 1) first second))
@@ -75,7 +75,7 @@ module _ (first second : List ℕ) where
           first = either a m l.first;
         }))
 
-    module _ (a : None ≡ first_bad first) (b : None ≡ first_bad second) where
+    module _ (a : None ≡ first_unlisted first) (b : None ≡ first_unlisted second) where
       listed : product_of first second ≡ multiplied (length first - 1) first second
       listed = fit ∙ ap (λ o. unless_at 10 o (multiplied (length first - 1) first second))
           (lowest_none (λ i. not (listed_at first second i)) (length first + length second) (either a (length second) (none_passes _ (length second) (sym b))))

@@ -6,7 +6,7 @@ ghost use Rattle.answers.specs.Refusals.{Writes};
 ghost use Rattle.answers.specs.Verdict.{over};
 ghost use Rattle.pauli.specs.Rows.{product, phased};
 ghost use Rattle.pauli.specs.Texts.{letter_of, fits_at, spelled};
-ghost use Rattle.product.specs.Parts.Table.{code_of, power_number, Tabled, first_bad, letter_text};
+ghost use Rattle.product.specs.Parts.Table.{code_of, power_number, Tabled, first_unlisted, letter_text};
 ghost use Rattle.product.specs.Product.{longest_row, product_of};
 
 use answers::Refusal;
@@ -56,8 +56,8 @@ fn fits(k: usize, b: u8) -> bool
 }
 
 // The first place with a byte that is not listed.
-fn first_bad(s: &[u8]) -> Option<usize>
-    ensures { result ≡ first_bad s.now }
+fn first_unlisted(s: &[u8]) -> Option<usize>
+    ensures { result ≡ first_unlisted s.now }
 {
     for (k, b) in s.iter().enumerate() {
         if !fits(k, *b) {
@@ -97,10 +97,10 @@ pub fn product(first: &[u8], second: &[u8], out: &mut [u8]) -> Result<usize, Ref
     if size != second.len() || size < 2 || limits::LONGEST_ROW < size {
         return Err(Refusal::RowLengths);
     }
-    if let Some(one) = first_bad(first) {
+    if let Some(one) = first_unlisted(first) {
         return Err(Refusal::BadByte(one));
     }
-    if let Some(two) = first_bad(second) {
+    if let Some(two) = first_unlisted(second) {
         return Err(Refusal::BadByte(size + two));
     }
     let sum = power_sum(first, second);

@@ -22,34 +22,34 @@ const MOST_COINS: u32 = 65_536;
 
 // Why a program ends before its work is done: a line on standard error has said it, or reading or printing failed.
 #[derive(Debug, Drop)]
-pub enum Stop {
+pub enum Quit {
     Said,
     Failed(Error),
 }
 
-impl From<Error> for Stop {
-    fn from(why: Error) -> Stop {
-        Stop::Failed(why)
+impl From<Error> for Quit {
+    fn from(why: Error) -> Quit {
+        Quit::Failed(why)
     }
 }
 
 // What `main` answers: where the reason was said, the program is at its end.
-pub fn ended(done: Result<(), Stop>) -> io::Result<()> {
+pub fn ended(done: Result<(), Quit>) -> io::Result<()> {
     match done {
-        Err(Stop::Failed(why)) => Err(why),
-        Ok(()) | Err(Stop::Said) => Ok(()),
+        Err(Quit::Failed(why)) => Err(why),
+        Ok(()) | Err(Quit::Said) => Ok(()),
     }
 }
 
 // The end that follows a line on standard error.
-fn said(line: io::Result<()>) -> Stop {
+fn said(line: io::Result<()>) -> Quit {
     match line {
-        Ok(()) => Stop::Said,
-        Err(why) => Stop::Failed(why),
+        Ok(()) => Quit::Said,
+        Err(why) => Quit::Failed(why),
     }
 }
 
-fn no_name(rt: &impl Eprint) -> Stop {
+fn no_name(rt: &impl Eprint) -> Quit {
     said(rt.eprintln("a file's name is missing or too long: ./senghovai prints the words to give"))
 }
 
@@ -72,7 +72,7 @@ fn say_cannot<R: Eprint + AllocGlobal>(
 }
 
 // One line on standard error: what could not be done, to which file, and why.
-fn cannot<R: Eprint + AllocGlobal>(rt: &R, what: &str, name: &[u8], why: Error) -> Stop {
+fn cannot<R: Eprint + AllocGlobal>(rt: &R, what: &str, name: &[u8], why: Error) -> Quit {
     said(say_cannot(rt, what, name, why))
 }
 
@@ -108,7 +108,7 @@ fn read_one<F: Read + Seek>(file: &mut F) -> io::Result<()> {
 }
 
 // The file that the i-th word names, for reading. Only a file that can be read from any place is taken.
-pub fn open_word<R: Files + Env + Eprint + AllocGlobal>(rt: &R, i: usize) -> Result<R::File, Stop> {
+pub fn open_word<R: Files + Env + Eprint + AllocGlobal>(rt: &R, i: usize) -> Result<R::File, Quit> {
     let name = word(rt, i)?.ok_or_else(|| no_name(rt))?;
     let mut file = open_read(rt, &name).map_err(|why| cannot(
         rt,
@@ -126,7 +126,7 @@ fn read_at_most<R: Files + Env + Eprint + AllocGlobal>(
     i: usize,
     most: u32,
     too_long: &str,
-) -> Result<Vec<u8>, Stop>
+) -> Result<Vec<u8>, Quit>
     ensures { IfOk result (λ bytes. vec_len bytes ≤ most) }
 {
     let file = open_word(rt, i)?;
@@ -139,21 +139,21 @@ fn read_at_most<R: Files + Env + Eprint + AllocGlobal>(
 }
 
 // The circuit of the file that the first word names.
-pub fn circuit<R: Files + Env + Eprint + AllocGlobal>(rt: &R) -> Result<Vec<u8>, Stop>
+pub fn circuit<R: Files + Env + Eprint + AllocGlobal>(rt: &R) -> Result<Vec<u8>, Quit>
     ensures { IfOk result (λ bytes. vec_len bytes ≤ LONGEST_CIRCUIT) }
 {
     read_at_most(rt, 1, LONGEST_CIRCUIT, "the circuit is too long")
 }
 
 // The coins of the file that the second word names.
-pub fn coins<R: Files + Env + Eprint + AllocGlobal>(rt: &R) -> Result<Vec<u8>, Stop>
+pub fn coins<R: Files + Env + Eprint + AllocGlobal>(rt: &R) -> Result<Vec<u8>, Quit>
     ensures { IfOk result (λ bytes. vec_len bytes ≤ MOST_COINS) }
 {
     read_at_most(rt, 2, MOST_COINS, "there are too many coins")
 }
 
 // As many bytes as the longest record has at the end of the file that the i-th word names, or all of it where there are fewer.
-pub fn tail<R: Files + Env + Eprint + AllocGlobal>(rt: &R, i: usize) -> Result<Vec<u8>, Stop> {
+pub fn tail<R: Files + Env + Eprint + AllocGlobal>(rt: &R, i: usize) -> Result<Vec<u8>, Quit> {
     let mut file = open_word(rt, i)?;
     if file
         .seek(SeekFrom::End(-(limits::LONGEST_RECORD as i64)))
@@ -187,7 +187,7 @@ pub fn append<R: Files + Env + Eprint + AllocGlobal>(
     rt: &R,
     i: usize,
     bytes: &[u8],
-) -> Result<(), Stop> {
+) -> Result<(), Quit> {
     let name = word(rt, i)?.unwrap_or(Vec::new(rt.alloc()));
     let mut file = open_back(rt, &name).map_err(|why| cannot(
         rt,

@@ -1,6 +1,6 @@
 // A file replaced at once: the bytes are written to a new file beside it, which then takes its name, so that a crash leaves the old file or the new.
 
-use crate::{LONGEST_WORD, Stop, cannot, no_name, path, word};
+use crate::{LONGEST_WORD, Quit, cannot, no_name, path, word};
 use std::env::Env;
 use std::fs::{self, File, OpenFile};
 use std::io::{self, Error, ErrorKind, Write};
@@ -36,7 +36,7 @@ fn put_all<F: Write + OpenFile + Drop>(mut file: F, bytes: &[u8]) -> io::Result<
 }
 
 // Why no file could be made beside the one named.
-fn not_made<R: Eprint + AllocGlobal>(rt: &R, name: &[u8], why: Error) -> Stop {
+fn not_made<R: Eprint + AllocGlobal>(rt: &R, name: &[u8], why: Error) -> Quit {
     let what = if why.kind() == ErrorKind::AlreadyExists {
         "cannot write, remove what broken runs left, named .new0 to .new9"
     } else {
@@ -55,7 +55,7 @@ pub fn save<R: Files + Env + Eprint + AllocGlobal>(
     rt: &R,
     i: usize,
     bytes: &[u8],
-) -> Result<(), Stop> {
+) -> Result<(), Quit> {
     let name = match word(rt, i)? {
         Some(name) if !name.is_empty() && name.len() + MARK.len() < LONGEST_WORD => name,
         _ => return Err(no_name(rt)),

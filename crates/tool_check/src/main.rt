@@ -4,9 +4,9 @@
 use std::env::Env;
 use std::io;
 use std::rt::Files;
-use tool::Stop;
+use tool::Quit;
 
-fn check<R: Files + Env + Print + Eprint + AllocGlobal>(rt: &R) -> Result<(), Stop> {
+fn check<R: Files + Env + Print + Eprint + AllocGlobal>(rt: &R) -> Result<(), Quit> {
     let text = tool::circuit(rt)?;
     match library::check(&text) {
         Ok(size) => println!(rt; "{} qubits, {} operations", size.qubits, size.operations)?,

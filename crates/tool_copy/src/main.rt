@@ -4,9 +4,9 @@
 use std::env::Env;
 use std::io;
 use std::rt::Files;
-use tool::Stop;
+use tool::Quit;
 
-fn copy<R: Files + Env + Print + Eprint + AllocGlobal>(rt: &R) -> Result<(), Stop> {
+fn copy<R: Files + Env + Print + Eprint + AllocGlobal>(rt: &R) -> Result<(), Quit> {
     let bytes = tool::tail(rt, 1)?;
     let mut out = [0u8; limits::LONGEST_RECORD];
     match library::copy(&bytes, &mut out) {

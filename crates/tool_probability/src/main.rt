@@ -6,7 +6,7 @@ use probability::Chance;
 use std::env::Env;
 use std::io::{self, BufReader, Read};
 use std::rt::Files;
-use tool::Stop;
+use tool::Quit;
 
 const LONGEST_LINE: usize = limits::MOST_OPERATIONS + 1;
 
@@ -52,7 +52,7 @@ fn each_readout<R: Print + Eprint + AllocGlobal, F: Read + Drop>(
     Ok(())
 }
 
-fn readouts<R: Files + Env + Print + Eprint + AllocGlobal>(rt: &R) -> Result<(), Stop> {
+fn readouts<R: Files + Env + Print + Eprint + AllocGlobal>(rt: &R) -> Result<(), Quit> {
     let text = tool::circuit(rt)?;
     match library::check(&text) {
         Ok(_) => each_readout(rt, &text, tool::open_word(rt, 2)?)?,

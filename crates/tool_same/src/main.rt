@@ -6,13 +6,13 @@ use archive::Unread;
 use std::env::Env;
 use std::io;
 use std::rt::Files;
-use tool::Stop;
+use tool::Quit;
 
 fn refuse(rt: &impl Print, which: &str, r: Refusal) -> io::Result<()> {
     println!(rt; "refused {which} {} {}", r.number(), r.place())
 }
 
-fn compare<R: Files + Env + Print + Eprint + AllocGlobal>(rt: &R) -> Result<(), Stop> {
+fn compare<R: Files + Env + Print + Eprint + AllocGlobal>(rt: &R) -> Result<(), Quit> {
     let first = tool::tail(rt, 1)?;
     let second = tool::tail(rt, 2)?;
     match library::same_state(&first, &second) {

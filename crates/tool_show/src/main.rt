@@ -5,7 +5,7 @@ use reading::Record;
 use std::env::Env;
 use std::io;
 use std::rt::Files;
-use tool::Stop;
+use tool::Quit;
 
 // The record's rows stand between its outcomes and the 12 bytes at the end.
 fn print_rows(rt: &impl Print, bytes: &[u8], record: Record<'_>) -> io::Result<()> {
@@ -16,7 +16,7 @@ fn print_rows(rt: &impl Print, bytes: &[u8], record: Record<'_>) -> io::Result<(
     Ok(())
 }
 
-fn show<R: Files + Env + Print + Eprint + AllocGlobal>(rt: &R) -> Result<(), Stop> {
+fn show<R: Files + Env + Print + Eprint + AllocGlobal>(rt: &R) -> Result<(), Quit> {
     let bytes = tool::tail(rt, 1)?;
     let mut words = [0u64; packing::WORDS];
     match library::read(&bytes, &mut words) {

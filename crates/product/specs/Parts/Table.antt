@@ -26,8 +26,8 @@ pub record Tabled (a b : ℕ) (e : Entry) : Type 0 where
   pub power : e.power ≡ power_number (power (letter_of a) (letter_of b))
 
 -- the first place of a row's text with a byte that is not listed
-abbrev pub first_bad : List ℕ → Option ℕ
-first_bad s = lowest (λ k. not (fits_at k (get_or s k 0))) (length s)
+abbrev pub first_unlisted : List ℕ → Option ℕ
+first_unlisted s = lowest (λ k. not (fits_at k (get_or s k 0))) (length s)
 
 -- the text of a row with this sign and the letters of the product
 abbrev pub letter_text : List ℕ → List ℕ → Bool → List ℕ

@@ -1,6 +1,6 @@
 use Rattle.std.proofs.Common.{sym, ◌∙◌, ap, not, ◌<◌, length, arith, below_more}
 use Rattle.answers.proofs.First.{lowest_some, lowest_none}
-use Rattle.product.proofs.first_bad.Goals as goal
+use Rattle.product.proofs.first_unlisted.Goals as goal
 
 pub loop-k-preserved : goal.loop-k-preserved
 loop-k-preserved c = below_more _ _ c.loop-k.invariant (sym c.fits.ensures ∙ c.if-not-fits.false)
