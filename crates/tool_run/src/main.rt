@@ -2,65 +2,31 @@
 // the rows; or prints the refusal and changes no file. A crash in mid-append leaves at worst a torn tail behind the records that were there.
 #![tactic(auto)]
 
-use answers::Written;
+use answers::Refusal;
 use std::env::Env;
 use std::io;
 use std::rt::Files;
-
-// Appends the record, which the sheet's first bytes are, to the archive.
-fn keep<R: Files + Env + Eprint + Alloc>(
-    rt: &R,
-    sheet: &[u8; limits::LONGEST_RECORD],
-    size: usize,
-) -> io::Result<bool> {
-    let bytes: &[u8] = sheet;
-    let n = tool::within(size, bytes);
-    tool::append(rt, 3, &bytes[..n])
-}
+use tool::Quit;
 
 // The record is appended before anything is printed, so that what is printed is in the archive. A refused run has no record, and its refusal is printed.
-fn run<R: Files + Env + Print + Eprint + Alloc>(
-    rt: &R,
-    circuit: &[u8],
-    coins: &[u8],
-) -> io::Result<()> {
-    let mut sheet = tool::tail_buffer();
-    let mut answer = [0u64; 6];
-    let mut out = tool::print_buffer();
-    match print::run_and_print(circuit, coins, &mut sheet, &mut answer, &mut out) {
-        Written::Bytes(size) => {
-            if answer[0] == 0 {
-                if !keep(rt, &sheet, answer[2] as usize)? {
-                    return Ok(());
-                }
+fn run<R: Files + Env + Print + Eprint + AllocGlobal>(rt: &R) -> Result<(), Quit> {
+    let circuit = tool::circuit(rt)?;
+    let coins = tool::coins(rt)?;
+    let mut sheet = [0u8; limits::LONGEST_RECORD];
+    let mut answer = Err(Refusal::NoRecord);
+    let mut out = [0u8; limits::LONGEST_TEXT];
+    match print::run_and_print(&circuit, &coins, &mut sheet, &mut answer, &mut out) {
+        Ok(size) => {
+            if let Ok(ran) = answer {
+                tool::append(rt, 3, &sheet[..ran.size])?;
             }
-            let n = tool::within(size, &out);
-            tool::say(rt, &out[..n])
+            rt.write_all(&out[..size])?;
         }
-        Written::Refused(r) => tool::refuse(rt, r),
+        Err(r) => rt.println(r)?,
     }
-}
-
-fn with_coins<R: Files + Env + Print + Eprint + Alloc>(rt: &R, circuit: &[u8]) -> io::Result<()> {
-    let Some(file) = tool::open_word(rt, 2)? else {
-        return Ok(());
-    };
-    let mut coins = tool::coin_buffer();
-    let n = tool::fill(file, &mut coins)?;
-    if n > 65536 {
-        return tool::complain(
-            rt,
-            b"there are too many coins: give a file of at most 65536 bytes\n",
-        );
-    }
-    run(rt, circuit, &coins[..n])
+    Ok(())
 }
 
 fn main(rt: HostRuntime) -> io::Result<()> {
-    let mut text = tool::circuit_buffer();
-    let n = tool::fill_circuit(&rt, &mut text)?;
-    if n == text.len() {
-        return Ok(());
-    }
-    with_coins(&rt, &text[..n])
+    tool::ended(run(&rt))
 }
