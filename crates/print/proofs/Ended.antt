@@ -1,5 +1,5 @@
 -- What a run leaves to print: where it is refused, its refusal; where it came to its end, a record that holds the printed lines. Assumes nothing.
-use mathlib.Core.Bool.{true, false}
+use mathlib.Core.Bool.{true}
 use mathlib.Core.List.{List, ◌++◌, map, append_assoc}
 use mathlib.Core.Path.{◌≡◌, refl, sym, ◌∙◌, ap, ap₂, subst}
 use Prim.Native.Nat.{ℕ, ◌≤◌}
@@ -10,7 +10,7 @@ use lib.ListN.{length, drop}
 use Rattle.std.specs.Prelude.{Result, Ok, Err}
 use Rattle.answers.specs.Verdict.{Verdict, accepted, refused, then, unless, over}
 use Rattle.answers.specs.declared.Refusal.{Refusal}
-use Rattle.answers.specs.Refusals.{number_of, place_of, told}
+use Rattle.answers.specs.Refusals.{number_of, place_of}
 use Rattle.answers.proofs.Accepting.{same_accepted, unless_passed, then_accepted}
 use Rattle.answers.proofs.Numbered.{not_accepted}
 use Rattle.clifford.specs.declared.Op.{Op}

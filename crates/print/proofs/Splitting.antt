@@ -9,7 +9,7 @@ use borrow.Author.Tests.{lt-ltb, le-ltb}
 use lib.Dec.{eqb}
 use lib.ListN.{length, take, drop, length-drop}
 use lib.Seq.{sets-eq, take_all}
-use Rattle.std.specs.Prelude.{Option, None, Some, Result, Ok, Err, nat_lt, position}
+use Rattle.std.specs.Prelude.{None, Some, Result, Ok, Err, nat_lt, position}
 use Rattle.std.specs.List.{position_or_len}
 use Rattle.std.proofs.lemmas.List.{drop_all}
 use Rattle.answers.specs.declared.Refusal.{Refusal}

@@ -1,5 +1,5 @@
 -- `print::run_and_print` meets its contract. Assumes nothing.
-use mathlib.Core.Path.{refl, ap}
+use mathlib.Core.Path.{refl}
 use native.Mathlib.Omega.{arith}
 use borrow.Author.Rules.{rules}
 use Rattle.print.proofs.Splitting.{put_front}
