@@ -4,7 +4,6 @@ use Prim.Native.Nat.{ℕ, zero, suc, ◌+◌, ◌-◌, ◌/◌, ◌%◌, ◌≤�
 use native.Mathlib.Omega.{arith}
 use mathlib.Core.HLevel.{is_prop→PathP}
 use Rattle.std.proofs.Props.{props}
-use Prim.{hlevel}
 use mathlib.Core.Bool.{Bool, false, not, cond}
 use lib.IntN.{ℤ, pos, negsuc}
 use lib.Dec.{T}

@@ -3,26 +3,22 @@ use mathlib.Core.Bool.{Bool, true, false, not, ◌||◌, true≢false}
 use mathlib.Core.List.{List, [], ◌∷◌, map}
 use Rattle.std.specs.Prelude.{Option, None, Some}
 use mathlib.Core.Path.{◌≡◌, refl, sym, ◌∙◌, ap, ap₂, subst}
-use Prim.Native.Nat.{ℕ, suc, ◌≤◌, ◌<◌}
+use Prim.Native.Nat.{ℕ, suc, ◌<◌}
 use native.Mathlib.Omega.{arith}
 use lib.Dec.{eqb}
 use lib.ListN.{length, get_or}
 use borrow.Author.Tests.{eqb-true, eq-eqb, ne_eqb, not-false}
 use Rattle.answers.specs.Verdict.{Verdict, refused, unless, unless_at}
-use Rattle.answers.proofs.First.{Answer, lowest_is, lowest_some, lowest_none}
+use Rattle.std.specs.List.{position}
+use Rattle.answers.proofs.First.{position_lowest, Answer, lowest_is}
 use Rattle.clifford.specs.Run.{coin}
 use Rattle.readouts.specs.Readouts.{Weighed}
 use Rattle.probability.specs.Probability.{is_value, value_of, first_other, well_stated}
 use Rattle.probability.specs.ByRuns.{value_byte}
-use Rattle.probability.specs.Parts.Stating.{Other}
 
--- the first other character is found, or there is none
-pub other_none : (s : List ℕ) (r : ℕ) → Other s r → length s ≤ r → first_other s ≡ None
-other_none s r o h = lowest_none (λ i. not (is_value (get_or s i 0))) (length s) (λ i l. ap not (o.before i (omega (arith, o.within))))
-
-pub other_some : (s : List ℕ) (r : ℕ) → Other s r → r < length s → first_other s ≡ Some r
-other_some s r o h =
-    lowest_some (λ i. not (is_value (get_or s i 0))) (length s) r (record { below = h; passes = ap not (o.here h); first = λ i l. ap not (o.before i l) })
+-- what the library finds is the first other character
+pub found_first : (s : List ℕ) → position (λ b. not (is_value b)) s ≡ first_other s
+found_first s = position_lowest (λ b. not (is_value b)) s
 
 -- 15, 10, or what comes later
 pub wrong_number : (s : List ℕ) (m : ℕ) → (length s ≡ m → ⊥) → (v : Verdict Weighed) → well_stated s m v ≡ refused 15 0

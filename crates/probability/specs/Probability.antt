@@ -3,7 +3,7 @@ use Rattle.std.specs.Prelude.{Bool, ◌||◌, not, List, map, ◌≡◌, ℕ, eq
 use Rattle.std.specs.Prelude.{Option, Result, Ok, Err}
 use Rattle.limits.specs.Limits.{most_halvings}
 use Rattle.answers.specs.First.{lowest}
-use Rattle.answers.specs.Verdict.{Verdict, accepted, refused, then, unless, unless_at}
+use Rattle.answers.specs.Verdict.{Verdict, accepted, then, unless, unless_at}
 use Rattle.answers.specs.declared.Refusal.{Refusal}
 use Rattle.answers.specs.Refusals.{told}
 use Rattle.circuit.specs.Text.{meaning, count_measured}

@@ -2,14 +2,16 @@
 // its double, the line that rules the readout out, or a refusal. Where the walk stops before the end, the rest of the text says whether it is refused.
 #![tactic(auto)]
 
-ghost use Rattle.std.specs.Prelude.{◌≡◌, ◌+◌, ◌-◌, ◌≤◌, drop};
+ghost use Rattle.std.specs.List.{position};
+ghost use Rattle.std.specs.Prelude.{not, ◌≡◌, ◌+◌, ◌-◌, ◌≤◌, drop};
+ghost use Rattle.answers.specs.Refusals.{told};
 ghost use Rattle.limits.specs.Limits.{most_qubits, most_operations};
-ghost use Rattle.answers.specs.Verdict.{accepted, then};
+ghost use Rattle.answers.specs.Verdict.{Verdict, accepted, then};
 ghost use Rattle.circuit.specs.Text.{operations};
 ghost use Rattle.checking.specs.Parts.Promises.{added, Headed};
-ghost use Rattle.readouts.specs.Readouts.{impossible};
+ghost use Rattle.readouts.specs.Readouts.{Weighed, impossible};
 ghost use Rattle.probability.specs.Probability.{is_value, well_stated, told_limit, probability_of, Tells};
-ghost use Rattle.probability.specs.Parts.Stating.{Other, StatedAs, weighed_as};
+ghost use Rattle.probability.specs.Parts.Stating.{weighed_as};
 
 use answers::Refusal;
 use half::Likelihood;
@@ -28,13 +30,15 @@ fn is_value(b: u8) -> bool
     (b == b'0') | (b == b'1')
 }
 
+// The place of the first other character.
 fn first_other(stated: &[u8]) -> Option<usize>
-    ensures { result ≡ first_other stated.now }
+    ensures { result ≡ position (λ b. not (is_value b)) stated.now }
 {
     stated.iter().position(|b| !is_value(*b))
 }
 
 // 15 for another number of characters than this, then 10 for another character.
+#[tactic(auto, using(crate::proofs::Characters::found_first))]
 fn well_stated(stated: &[u8], measured: usize) -> Result<(), Refusal>
     ensures { (v : Verdict Weighed) → well_stated stated.now measured v ≡ then (told result) (λ _. v) }
 {
@@ -62,7 +66,12 @@ fn chance_of(random: usize, against: Option<usize>) -> Result<Chance, Refusal>
 }
 
 // The text is accepted, and has so many measurements.
-fn judged(stated: &[u8], measured: usize, random: usize, against: Option<usize>) -> Result<Chance, Refusal>
+fn judged(
+    stated: &[u8],
+    measured: usize,
+    random: usize,
+    against: Option<usize>,
+) -> Result<Chance, Refusal>
     ensures { Tells (well_stated stated.now measured (told_limit (weighed_as random against))) result }
 {
     well_stated(stated, measured)?;
@@ -70,12 +79,12 @@ fn judged(stated: &[u8], measured: usize, random: usize, against: Option<usize>)
 }
 
 // The walk stopped at the line that begins here, behind so many operations and with these counts.
-fn halted(text: &[u8], n: usize, at: usize, done: usize, passed: Passed, stated: &[u8]) -> Result<Chance, Refusal>
-    requires { (n ≤ most_qubits) × (done ≤ most_operations) × (passed.measured ≤ done) }
-    ensures { Tells (then (then (operations n (most_operations - done) (done + 2) (drop at text.now)) (λ ops. accepted (added done passed.measured ops))) (λ c. well_stated stated.now c.measured (accepted (impossible (done + 2))))) result }
+fn halted(text: &[u8], n: usize, s: Stopped, stated: &[u8]) -> Result<Chance, Refusal>
+    requires { (n ≤ most_qubits) × (s.done ≤ most_operations) × (s.passed.measured ≤ s.done) }
+    ensures { Tells (then (then (operations n (most_operations - s.done) (s.done + 2) (drop s.at text.now)) (λ ops. accepted (added s.done s.passed.measured ops))) (λ c. well_stated stated.now c.measured (accepted (impossible (s.done + 2))))) result }
 {
-    let all = checking::scan_lines(text, at, n, done, passed.measured)?;
-    judged(stated, all.measured, passed.random, Some(done + 2))
+    let all = checking::scan_lines(text, s.at, n, s.done, s.passed.measured)?;
+    judged(stated, all.measured, s.passed.random, Some(s.done + 2))
 }
 
 fn weighed(text: &[u8], body: usize, n: usize, stated: &[u8]) -> Result<Chance, Refusal>
