@@ -6,4 +6,3 @@ pub mod InWords
 pub mod Passing
 pub mod Single
 pub mod Tied
-pub mod First

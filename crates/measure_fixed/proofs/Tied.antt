@@ -3,18 +3,16 @@ use mathlib.Core.Path.{◌≡◌, refl, sym, ap, ap₂, ◌∙◌}
 use mathlib.Core.Logic.{◌≢◌}
 use mathlib.Core.Bool.{Bool, true, false, cond, ◌&&◌, true≢false}
 use mathlib.Core.List.{List, [], ◌∷◌}
-use Prim.Native.Nat.{ℕ, zero, suc, ◌*◌, ◌/◌, ◌%◌, ◌^◌, ◌≤◌, ◌<◌, ◌+◌}
+use Prim.Native.Nat.{ℕ, zero, suc, ◌*◌, ◌/◌, ◌%◌, ◌≤◌, ◌<◌, ◌+◌}
 use native.Mathlib.Nat.{add-zero}
 use native.Mathlib.Decide.{dec_lt}
 use native.Mathlib.Omega.{arith}
-use lib.Bits.{bit_and}
-use lib.Count.{count_trailing_zeros}
 use lib.Dec.{eqb}
 use lib.ListN.{get_or}
 use borrow.Author.Tests.{eq-eqb, ne_eqb, eqb-true, eqb-false}
 use Rattle.limits.specs.Limits.{most_qubits}
 use Rattle.words.specs.Bit.{bit}
-use Rattle.words.proofs.BitLaws.{bit-zero, trailing_below}
+use Rattle.words.proofs.BitLaws.{bit-zero}
 use Rattle.pauli.specs.Letters.{Letter, I, letter}
 use Rattle.pauli.specs.Rows.{Row, Phased, product, phased}
 use Rattle.pauli.proofs.Cases as cases
@@ -23,10 +21,10 @@ use Rattle.clifford.specs.Measurement.{has_x, gathered, fixed_value}
 use Rattle.packing.specs.View.{sign_words, bit_in, bit_at, row_at, rows_from, rows_of, Holds}
 use Rattle.packing.proofs.Determined.{row_sign, row_letter}
 use Rattle.packing.proofs.Views.{rows_in, rows_out, x_at}
-use Rattle.measure_fixed.specs.Parts.Column.{pair, x_bit, z_bit, s_bit, all_powers}
+use Rattle.measure_fixed.specs.Parts.Column.{pair, x_bit, z_bit, s_bit, all_powers, OnlyRow}
 use Rattle.measure_fixed.proofs.Exchange.{exchanged}
 use Rattle.measure_fixed.proofs.InWords.{Has, each_word}
-use Rattle.measure_fixed.proofs.Single.{no_factor, one_factor, lone, bit_test}
+use Rattle.measure_fixed.proofs.Single.{no_factor, one_factor}
 
 shown : (p u v : Bool) → cond p (letter u v) I ≡ letter (p && u) (p && v)
 shown = cases.tested (cases.bit ∷ cases.bit ∷ cases.bit ∷ []) cases.ltr _ _ tt
@@ -116,27 +114,25 @@ module _ (n a : ℕ) (w : List ℕ) (h : Holds n w) (nl : n ≤ most_qubits) (an
       go (yes b) = sym (one_factor n a p (rows_of n w) (only p e) b ∙ ap (λ (q : Row). q.minus) (rows_in n most_qubits w p b) ∙ row_sign n w (most_qubits + p))
       go (no b) = absurd (true≢false (sym (eq-eqb p p refl) ∙ e.row p l ∙ beyond p l (omega arith)))
 
-  pub fixed_none : tel ≡ 0 → count_trailing_zeros 64 sel ≡ 64 → false ≡ fixed_value n a (rows_of n w)
-  fixed_none z e =
+  pub fixed_none : sel ≡ 0 → tel ≡ 0 → false ≡ fixed_value n a (rows_of n w)
+  fixed_none e f =
       sym (no_factor n a most_qubits (rows_of n w) (only most_qubits (record {
         row = λ k l. ne_eqb k most_qubits (λ q. omega arith)
-            ∙ sym (each_word (λ g. bit (k % 64) (both g) ≡ false) (trailing_below 64 sel (k % 64) (omega arith)) (ap (bit (k % 64)) z ∙ bit-zero (k % 64)) k l);
+            ∙ sym (each_word (λ g. bit (k % 64) (both g) ≡ false) (ap (bit (k % 64)) e ∙ bit-zero (k % 64)) (ap (bit (k % 64)) f ∙ bit-zero (k % 64)) k l);
       })) nl)
 
-  -- the one row of word g, where the other words are 0
-  pub fixed_one : (g : ℕ) → g < 2 → ((t : ℕ) → t < 2 → (t ≡ g → ⊥) → both t ≡ 0) → count_trailing_zeros 64 (both g) < 64 → both g / 2 ^ count_trailing_zeros 64 (both g) ≡ 1
-      → eqb (bit_and (get_or w (sign_words + (2 + g)) 0 / 2 ^ count_trailing_zeros 64 (both g)) 1) 1 ≡ fixed_value n a (rows_of n w)
-  fixed_one g gl others l e =
-      let q = count_trailing_zeros 64 (both g) in
-      let f : (most_qubits + (64 * g + q)) % 64 ≡ q = omega arith in
-      let t : (most_qubits + (64 * g + q)) / 64 ≡ 2 + g = omega arith in
-      bit_test q (get_or w (sign_words + (2 + g)) 0) ∙ sym (ap₂ (λ (k i : ℕ). bit k (get_or w (sign_words + i) 0)) f t)
-      ∙ one_row (64 * g + q) (omega arith) (record { row = λ k b. go k b (eqb (k / 64) g) refl })
+  -- the one row of word g, where the other word is 0
+  pub fixed_one : (g : ℕ) → g < 2 → ((t : ℕ) → t < 2 → (t ≡ g → ⊥) → both t ≡ 0) → (minus : Bool) → OnlyRow (both g) (get_or w (sign_words + (2 + g)) 0) minus → minus ≡ fixed_value n a (rows_of n w)
+  fixed_one g gl others minus o =
+      let f : (most_qubits + (64 * g + o.row)) % 64 ≡ o.row = omega (arith, o.below) in
+      let t : (most_qubits + (64 * g + o.row)) / 64 ≡ 2 + g = omega (arith, o.below) in
+      o.sign ∙ sym (ap₂ (λ (k i : ℕ). bit k (get_or w (sign_words + i) 0)) f t)
+      ∙ one_row (64 * g + o.row) (omega (arith, o.below)) (record { row = λ k b. go k b (eqb (k / 64) g) refl })
     where
-      go : (k : ℕ) → k < most_qubits → (i : Bool) → eqb (k / 64) g ≡ i → eqb k (64 * g + count_trailing_zeros 64 (both g)) ≡ bit_in both k
+      go : (k : ℕ) → k < most_qubits → (i : Bool) → eqb (k / 64) g ≡ i → eqb k (64 * g + o.row) ≡ bit_in both k
       go k b true c =
           let h : k / 64 ≡ g = eqb-true (k / 64) g c in
-          same_number g (count_trailing_zeros 64 (both g)) k l h (eqb (k % 64) (count_trailing_zeros 64 (both g))) refl ∙ sym (ap (λ (i : ℕ). bit (k % 64) (both i)) h ∙ lone (both g) (k % 64) e)
+          same_number g o.row k o.below h (eqb (k % 64) o.row) refl ∙ sym (ap (λ (i : ℕ). bit (k % 64) (both i)) h ∙ o.alone (k % 64) (omega arith))
       go k b false c =
           let h : k / 64 ≢ g = eqb-false (k / 64) g c in
-          ne_eqb k (64 * g + count_trailing_zeros 64 (both g)) (λ r. omega arith) ∙ sym (ap (bit (k % 64)) (others (k / 64) (omega arith) h) ∙ bit-zero (k % 64))
+          ne_eqb k (64 * g + o.row) (λ r. omega (arith, o.below)) ∙ sym (ap (bit (k % 64)) (others (k / 64) (omega arith) h) ∙ bit-zero (k % 64))

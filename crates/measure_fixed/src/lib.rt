@@ -4,13 +4,13 @@
 // the parities of the second start from the last one of the first.
 #![tactic(auto)]
 
-ghost use Rattle.std.specs.Prelude.{◌&&◌, ◌≡◌, ℕ, suc, ◌<◌, ◌≤◌};
+ghost use Rattle.std.specs.Prelude.{IfSome, ◌&&◌, ◌≡◌, ℕ, suc, ◌<◌, ◌≤◌};
 ghost use Rattle.limits.specs.Limits.{most_qubits};
 ghost use Rattle.pauli.specs.Rows.{odd_number};
 ghost use Rattle.clifford.specs.Measurement.{fixed_value};
 ghost use Rattle.words.specs.Bit.{bit};
 ghost use Rattle.packing.specs.View.{rows_of};
-ghost use Rattle.measure_fixed.specs.Parts.Column.{count, power_of, pair, all_powers};
+ghost use Rattle.measure_fixed.specs.Parts.Column.{count, power_of, pair, all_powers, OnlyRow};
 
 use packing::{Packed, Words};
 
@@ -35,16 +35,17 @@ fn both_odd(x: u64, p: u64) -> u64
 
 // The power of i of the product of the rows of sel and tel in their order, modulo four. A bit of h0 or h1 is 3 for an odd number of Y in its row,
 // each bit of twos is 2: for a minus, for two Y of a row, for an X behind an odd number of Z. A column with neither X nor Y among the rows adds nothing.
+// It is written out at each call: where tel is written 0 nothing is left of the second word.
+#[inline(always)]
 fn powers(w: &Words, sel: u64, tel: u64, n: usize) -> u64
     requires { n ≤ most_qubits }
     ensures { power_of result ≡ all_powers most_qubits n w.now (pair sel tel) }
 {
     let mut twos = (sel & w[packing::SIGNS + 2]) ^ (tel & w[packing::SIGNS + 3]);
-    let mut h0: u64 = 0;
-    let mut h1: u64 = 0;
-    let mut columns: u64 = 0;
-    let mut j: usize = 0;
-    while j < n {
+    let mut h0 = 0u64;
+    let mut h1 = 0u64;
+    let mut columns = 0u64;
+    for j in 0..n {
         let xi = 8 * j;
         let zi = 8 * j + 4;
         let x0 = sel & w[xi + 2];
@@ -56,42 +57,26 @@ fn powers(w: &Words, sel: u64, tel: u64, n: usize) -> u64
             let y1 = x1 & z1;
             let p0 = parities(z0);
             let p1 = parities(z1) ^ words::splat(p0, 63);
-            twos = twos ^ ((h0 & y0) ^ (p0 & x0) ^ (h1 & y1) ^ (p1 & x1));
-            h0 = h0 ^ y0;
-            h1 = h1 ^ y1;
+            twos ^= (h0 & y0) ^ (p0 & x0) ^ (h1 & y1) ^ (p1 & x1);
+            h0 ^= y0;
+            h1 ^= y1;
             columns += both_odd(x0 ^ x1, p1);
         }
-        j += 1;
     }
-    3 * columns
-        + 3 * (u64::count_ones(h0) as u64 + u64::count_ones(h1) as u64)
-        + 2 * (u64::count_ones(twos) as u64)
+    let rows = u64::from(h0.count_ones()) + u64::from(h1.count_ones());
+    3 * columns + 3 * rows + 2 * u64::from(twos.count_ones())
 }
 
-// The same where no row of the second word is selected.
-fn first_powers(w: &Words, sel: u64, n: usize) -> u64
-    requires { n ≤ most_qubits }
-    ensures { power_of result ≡ all_powers most_qubits n w.now (pair sel 0) }
+// The sign of the one row that a word selects, of the rows with these signs; none where it selects no row or more.
+fn lone_sign(sel: u64, signs: u64) -> Option<bool>
+    ensures { IfSome result (λ minus. OnlyRow sel signs minus) }
 {
-    let mut twos = sel & w[packing::SIGNS + 2];
-    let mut h0: u64 = 0;
-    let mut columns: u64 = 0;
-    let mut j: usize = 0;
-    while j < n {
-        let xi = 8 * j;
-        let zi = 8 * j + 4;
-        let x0 = sel & w[xi + 2];
-        if x0 != 0 {
-            let z0 = sel & w[zi + 2];
-            let y0 = x0 & z0;
-            let p0 = parities(z0);
-            twos = twos ^ ((h0 & y0) ^ (p0 & x0));
-            h0 = h0 ^ y0;
-            columns += both_odd(x0, p0);
-        }
-        j += 1;
+    let p = sel.trailing_zeros();
+    if p < 64 && sel >> p == 1 {
+        Some((signs >> p) & 1 == 1)
+    } else {
+        None
     }
-    3 * columns + 3 * (u64::count_ones(h0) as u64) + 2 * (u64::count_ones(twos) as u64)
 }
 
 // The stabilizers whose partners have X or Y at a, multiplied: 1 when the sign is minus. Of none the sign is plus, and of one it is its own.
@@ -101,25 +86,20 @@ pub fn fixed_value(rows: &Packed, a: usize) -> bool
 {
     let n = rows.qubits;
     let w = &rows.words;
-    let i = 8 * a;
-    let sel = w[i];
-    let tel = w[i + 1];
+    let sel = w[8 * a];
+    let tel = w[8 * a + 1];
     if tel == 0 {
-        let p = u64::trailing_zeros(sel) as usize;
-        if p == 64 {
+        if sel == 0 {
             return false;
         }
-        if sel >> p == 1 {
-            return (w[packing::SIGNS + 2] >> p) & 1 == 1;
+        if let Some(minus) = lone_sign(sel, w[packing::SIGNS + 2]) {
+            return minus;
         }
-        return first_powers(w, sel, n) / 2 % 2 == 1;
+        return powers(w, sel, 0, n) / 2 % 2 == 1;
     }
     if sel == 0 {
-        let p = u64::trailing_zeros(tel) as usize;
-        if p < 64 {
-            if tel >> p == 1 {
-                return (w[packing::SIGNS + 3] >> p) & 1 == 1;
-            }
+        if let Some(minus) = lone_sign(tel, w[packing::SIGNS + 3]) {
+            return minus;
         }
     }
     powers(w, sel, tel, n) / 2 % 2 == 1

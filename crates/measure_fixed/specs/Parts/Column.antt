@@ -1,9 +1,10 @@
 -- The power of i of an ordered product of rows, summed by rows and by columns: what the functions of src/lib.rt that `fixed_value` calls promise
 -- each other. Its own promise cites none of this. Assumes nothing.
-use Rattle.std.specs.Prelude.{Bool, true, false, ◌&&◌, List, ℕ, zero, suc, ◌*◌, ◌+◌}
+use Rattle.std.specs.Prelude.{Bool, true, false, ◌&&◌, List, ◌≡◌, ℕ, zero, suc, ◌*◌, ◌+◌, ◌<◌, eqb}
 use Rattle.limits.specs.Limits.{most_qubits}
 use Rattle.pauli.specs.Letters.{Power, i0, i3, next, ◌⊞◌, sign}
 use Rattle.pauli.specs.Rows.{odd_number, sum_powers}
+use Rattle.words.specs.Bit.{bit}
 use Rattle.packing.specs.View.{sign_words, bit_in, bit_at}
 
 -- i to the n
@@ -49,3 +50,10 @@ summed X Z S m n = sum_powers (by_row X Z S n) m ⊞ sum_powers (by_column X Z m
 -- of the first m stabilizers, those that sel has, on n qubits
 unfoldable pub all_powers : ℕ → ℕ → List ℕ → (ℕ → ℕ) → Power
 all_powers m n w sel = summed (x_bit w sel) (z_bit w sel) (s_bit w sel) m n
+
+-- of 64 rows `sel` has one alone, and of `signs` that is its sign
+pub record OnlyRow (sel signs : ℕ) (minus : Bool) : Type 0 where
+  pub row : ℕ
+  pub below : row < 64
+  pub alone : (k : ℕ) → k < 64 → bit k sel ≡ eqb k row
+  pub sign : minus ≡ bit row signs
