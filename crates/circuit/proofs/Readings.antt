@@ -16,6 +16,10 @@ pub moved :
 moved f g s at next (Some (value, last)) e h r = record { reads = e ∙ r.reads; after = omega (arith, r.after); within = r.within }
 moved f g s at next None e h r = e ∙ r
 
+-- what is found is one value, with one rest behind it
+pub same_found : {A : Type 0} (a b : A) (s t : List ℕ) → found a s ≡ found b t → (b ≡ a) × (t ≡ s)
+same_found a b s t e = (cc, cc)
+
 -- the rest after an end byte, and after a space
 abbrev pub closing : {A : Type 0} → A → Option (List ℕ) → Found A
 closing a o = elim o [ Some rest ↦ found a rest | None ↦ malformed ]

@@ -11,23 +11,13 @@ use Rattle.clifford.specs.declared.Op.{Op}
 use Rattle.clifford.specs.Run.{Valid, AllValid}
 use Rattle.clifford.proofs.Running.{valid_front}
 use Rattle.limits.specs.Limits.{most_operations}
-use Rattle.circuit.specs.Lines.{Found, found, malformed, op_line}
+use Rattle.circuit.specs.Lines.{found, op_line}
 use Rattle.circuit.specs.Text.{Circuit, ends, header, meaning}
 use Rattle.checking.proofs.Meant.{Parts, parts}
+use Rattle.circuit.proofs.Readings.{same_found}
 use Rattle.circuit_writer.specs.Writing.{line_text, header_text, lines_text, circuit_text}
 use Rattle.circuit_writer.proofs.Written.{line_written, line_starts, valid_small, header_written, text_means}
 use Rattle.circuit_writer.proofs.Recovered.{lines_read, text_recovered}
-
-both_found : {A : Type 0} (a b : A) (s t : List ℕ) → found a s ≡ found b t → (a ≡ b) × (s ≡ t)
-both_found {A} a b s t e = (ap value e, ap behind e)
-  where
-    value : Found A → A
-    value (found c u) = c
-    value malformed = a
-
-    behind : Found A → List ℕ
-    behind (found c u) = u
-    behind malformed = s
 
 -- all operations are those in front, then more, whose lines are the rest of the text
 record Front (n : ℕ) (front all : List Op) (rest : List ℕ) : Type 0 where
@@ -40,9 +30,9 @@ lines_front : (n : ℕ) → n ≤ 1000 → (front all : List Op) (rest : List �
 lines_front n k [] all rest v w e = record { more = all; is = refl; text = e; valid = w }
 lines_front n k (op ∷ front) [] rest v w e = absurd (true≢false (ap ends (e ∙ append_assoc (line_text op) (lines_text front) rest) ∙ line_starts op (lines_text front ++ rest)))
 lines_front n k (op ∷ front) (o ∷ all) rest v w e =
-    let q : found o (lines_text all) ≡ found op (lines_text front ++ rest)
-    = sym (line_written o (lines_text all) (valid_small n o k w.0)) ∙ ap op_line (e ∙ append_assoc (line_text op) (lines_text front) rest) ∙ line_written op (lines_text front ++ rest) (valid_small n op k v.0) in
-    let r = both_found o op (lines_text all) (lines_text front ++ rest) q in
+    let q : found op (lines_text front ++ rest) ≡ found o (lines_text all)
+    = sym (line_written op (lines_text front ++ rest) (valid_small n op k v.0)) ∙ sym (ap op_line (e ∙ append_assoc (line_text op) (lines_text front) rest)) ∙ line_written o (lines_text all) (valid_small n o k w.0) in
+    let r = same_found op o (lines_text front ++ rest) (lines_text all) q in
     let f = lines_front n k front all rest v.1 w.1 r.1 in
     record { more = f.more; is = ap₂ ◌∷◌ r.0 f.is; text = f.text; valid = f.valid }
 
@@ -69,7 +59,7 @@ longer_text short long c d op later m k v e = record { qubits = n_is; more = sec
         ∙ append_assoc (header_text c.qubits) (lines_text c.ops) (line_text op ++ later)
 
     headed : (d.qubits ≡ c.qubits) × (q.rest ≡ behind)
-    headed = both_found d.qubits c.qubits q.rest behind (sym q.header_is ∙ ap header long_is ∙ header_written c.qubits behind (omega (arith, p.few_qubits)))
+    headed = same_found c.qubits d.qubits behind q.rest (sym (ap header long_is ∙ header_written c.qubits behind (omega (arith, p.few_qubits))) ∙ q.header_is)
 
     n_is : d.qubits ≡ c.qubits
     n_is = headed.0

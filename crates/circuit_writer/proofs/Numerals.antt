@@ -9,6 +9,7 @@ use borrow.Author.Tests.{eqb-true, eqb-false}
 use lib.Dec.{eqb}
 use Rattle.circuit.specs.Lines.{found, malformed, digits, number}
 use Rattle.circuit.proofs.Digits.{is_or_not, no_number, digits_more, number_starts}
+use Rattle.circuit.proofs.Readings.{same_found}
 use Rattle.lines.specs.Decimal.{decimal}
 use Rattle.circuit_writer.proofs.Short.{decimal_one, decimal_two, decimal_three}
 
@@ -23,9 +24,6 @@ pub record WentOn (k v : ℕ) (t : List ℕ) (x : ℕ) (rest : List ℕ) : Type 
   pub tail : List ℕ
   pub front : t ≡ (48 + digit) ∷ tail
   pub goes_on : digits k (10 * v + digit) tail ≡ found x rest
-
-pub same_found : {A : Type 0} (a b : A) (s t : List ℕ) → found a s ≡ found b t → (b ≡ a) × (t ≡ s)
-same_found a b s t e = (cc, cc)
 
 step : (k v : ℕ) (t : List ℕ) (x : ℕ) (rest : List ℕ) → digits (suc k) v t ≡ found x rest → Stopped v t x rest ⊎ WentOn k v t x rest
 step k v [] x rest e = inl (let w = same_found v x [] rest e in record { value = w.0; left = w.1 })

@@ -19,13 +19,13 @@ use Rattle.circuit.specs.Text.{Circuit, ends, operations, header, meaning}
 use Rattle.circuit.specs.Parts.Reading.{qubits}
 use Rattle.circuit.proofs.Positions.{stripped}
 use Rattle.circuit.proofs.Names.{or_else, spaced_qubits}
-use Rattle.circuit.proofs.Readings.{closing, spacing}
+use Rattle.circuit.proofs.Readings.{same_found, closing, spacing}
 use Rattle.circuit.proofs.Walk.{ends_or_not, next_line, no_more}
 use Rattle.checking.proofs.Meant.{parts}
 use Rattle.lines.specs.Decimal.{decimal}
 use Rattle.circuit_writer.specs.Writing.{name_text, qubit_text, qubits_text, line_text, header_text, lines_text, circuit_text}
 use Rattle.circuit_writer.specs.Parts.Small.{Small}
-use Rattle.circuit_writer.proofs.Numerals.{same_found, number_read}
+use Rattle.circuit_writer.proofs.Numerals.{number_read}
 
 -- a reading that goes on has gone well before
 pub record Before {A B : Type 0} (r : Found A) (f : A → List ℕ → Found B) (b : B) (rest : List ℕ) : Type 0 where

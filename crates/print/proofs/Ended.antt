@@ -15,8 +15,8 @@ use Rattle.answers.proofs.Accepting.{same_accepted, unless_passed, then_accepted
 use Rattle.answers.proofs.Numbered.{not_accepted}
 use Rattle.clifford.specs.declared.Op.{Op}
 use Rattle.clifford.specs.Run.{State, run, begin}
-use Rattle.circuit.specs.Lines.{found}
 use Rattle.circuit.specs.Text.{Circuit, meaning, operations, count_measured}
+use Rattle.circuit.proofs.Readings.{same_found}
 use Rattle.checking.specs.declared.Heading.{Heading}
 use Rattle.checking.specs.Parts.Promises.{Headed, Heads}
 use Rattle.checking.proofs.Meant.{parts}
@@ -113,15 +113,12 @@ came text coins old rest new r w =
 regroup : (m r t d : List ℕ) → m ++ r ++ t ++ d ≡ m ++ (r ++ (t ++ d))
 regroup m r t d = simp append_assoc
 
-same_found : (a b : ℕ) (s t : List ℕ) → found a s ≡ found b t → (a ≡ b) × (s ≡ t)
-same_found a b s t e = (cc, cc)
-
 module _ (text coins old new : List ℕ) (w : Came text coins old new) (n body : ℕ) (h : Headed text n body) where
   abbrev c : Circuit
   c = w.circuit
 
   headed : (c.qubits ≡ n) × ((parts text c w.meant).rest ≡ drop body text)
-  headed = let p = parts text c w.meant in same_found c.qubits n p.rest (drop body text) (sym p.header_is ∙ h.stands.reads)
+  headed = let p = parts text c w.meant in same_found n c.qubits (drop body text) p.rest (sym h.stands.reads ∙ p.header_is)
 
   lines : operations n most_operations 2 (drop body text) ≡ accepted c.ops
   lines = sym (ap₂ (λ (k : ℕ) (s : List ℕ). operations k most_operations 2 s) headed.0 headed.1) ∙ (parts text c w.meant).lines

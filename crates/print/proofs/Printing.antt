@@ -25,13 +25,14 @@ use Rattle.lines.specs.Decimal.{decimal}
 use Rattle.lines.specs.Parts.Putting.{Puts}
 use Rattle.lines.proofs.Digits.{decimal_few}
 use Rattle.lines.proofs.Putting.{puts_none, puts_then, puts_as}
+use Rattle.records.specs.Record.{outcome_of}
 use Rattle.records.proofs.Lengths.{square_below}
 use Rattle.walking.specs.Parts.Walk.{lines_of}
 use Rattle.print_lines.specs.Line.{spaced, kind_word, value_word, outcome_line}
 use Rattle.print_lines.specs.Rows.{parts_closed}
 use Rattle.print_lines.proofs.Words.{kind_few, value_one}
 use Rattle.print.specs.Printed.{outcome_lines}
-use Rattle.print.specs.Parts.Sheets.{outcome_told, op_text, sheet_lines, Ready}
+use Rattle.print.specs.Parts.Sheets.{op_text, sheet_lines, Ready}
 
 -- how long an outcome line is
 pub spaced_last : (w : List ℕ) → length (spaced w []) ≡ length w + 1
@@ -54,9 +55,9 @@ op_few line (measure f a) o = omega (arith, line_length line a o, decimal_few li
 
 -- one operation's line, and those behind it
 op_first : (line : ℕ) (op : Op) (ops : List Op) (sheet : List ℕ) (k : ℕ) → k < length sheet
-    → outcome_lines line (op ∷ ops) (map outcome_told (drop k sheet)) ≡ op_text line op (outcome_told (get_or sheet k 0)) ++ outcome_lines (suc line) ops (map outcome_told (drop (k + measures op) sheet))
-op_first line (apply g) ops sheet k h = ap (λ (m : ℕ). outcome_lines (suc line) ops (map outcome_told (drop m sheet))) (sym (add-zero k))
-op_first line (measure f a) ops sheet k h = ap (λ (s : List ℕ). outcome_lines line (measure f a ∷ ops) (map outcome_told s)) (front sheet k h)
+    → outcome_lines line (op ∷ ops) (map outcome_of (drop k sheet)) ≡ op_text line op (outcome_of (get_or sheet k 0)) ++ outcome_lines (suc line) ops (map outcome_of (drop (k + measures op) sheet))
+op_first line (apply g) ops sheet k h = ap (λ (m : ℕ). outcome_lines (suc line) ops (map outcome_of (drop m sheet))) (sym (add-zero k))
+op_first line (measure f a) ops sheet k h = ap (λ (s : List ℕ). outcome_lines line (measure f a ∷ ops) (map outcome_of s)) (front sheet k h)
 
 -- the lines of the operations that stand before this position are put, and the rest of the record tells those behind it
 pub record Printing (text : List ℕ) (body n : ℕ) (sheet : List ℕ) (before after : Lines) (at line k : ℕ) : Type 0 where
@@ -65,7 +66,7 @@ pub record Printing (text : List ℕ) (body n : ℕ) (sheet : List ℕ) (before 
   pub left : operations n room line (drop at text) ≡ accepted ops
   pub done : List ℕ
   pub puts : Puts done before after
-  pub so_far : outcome_lines 2 (lines_of n body text) (map outcome_told sheet) ≡ done ++ outcome_lines line ops (map outcome_told (drop k sheet))
+  pub so_far : outcome_lines 2 (lines_of n body text) (map outcome_of sheet) ≡ done ++ outcome_lines line ops (map outcome_of (drop k sheet))
   pub count : k + count_measured ops ≡ count_measured (lines_of n body text)
   pub size : after.at + 51 * length ops ≤ before.at + 51 * most_operations
   pub lines : line + length ops ≤ most_operations + 2
@@ -104,10 +105,10 @@ module _ (text : List ℕ) (body n : ℕ) (sheet : List ℕ) (before : Lines) (r
           omega (arith, ap length q.ops_is, w.size)
 
       -- one operation more
-      print_on : (new : Lines) → Puts (op_text line op (outcome_told (get_or sheet k 0))) after new → Printing text body n sheet before new behind (line + 1) (k + measures op)
+      print_on : (new : Lines) → Puts (op_text line op (outcome_of (get_or sheet k 0))) after new → Printing text body n sheet before new behind (line + 1) (k + measures op)
       print_on new p =
           let q = next_at n w.room line text at w.ops w.left op behind within s in
-          let t = op_text line op (outcome_told (get_or sheet k 0)) in
+          let t = op_text line op (outcome_of (get_or sheet k 0)) in
           let u : length w.ops ≡ suc (length q.more) = ap length q.ops_is in
           rw (add-one line) (record {
             ops = q.more;
@@ -116,11 +117,11 @@ module _ (text : List ℕ) (body n : ℕ) (sheet : List ℕ) (before : Lines) (r
             done = w.done ++ t;
             puts = puts_then w.puts p;
             so_far =
-                w.so_far ∙ ap (λ (o : List Op). w.done ++ outcome_lines line o (map outcome_told (drop k sheet))) q.ops_is
+                w.so_far ∙ ap (λ (o : List Op). w.done ++ outcome_lines line o (map outcome_of (drop k sheet))) q.ops_is
                 ∙ ap (λ (x : List ℕ). w.done ++ x) (op_first line op q.more sheet k print_mark)
-                ∙ sym (append_assoc w.done t (outcome_lines (suc line) q.more (map outcome_told (drop (k + measures op) sheet))));
+                ∙ sym (append_assoc w.done t (outcome_lines (suc line) q.more (map outcome_of (drop (k + measures op) sheet))));
             count = omega (arith, w.count, ap count_measured q.ops_is);
-            size = omega (arith, u, w.size, p.next_is, op_few line op (outcome_told (get_or sheet k 0)));
+            size = omega (arith, u, w.size, p.next_is, op_few line op (outcome_of (get_or sheet k 0)));
             lines = omega (arith, u, w.lines);
           })
 
@@ -128,7 +129,7 @@ module _ (text : List ℕ) (body n : ℕ) (sheet : List ℕ) (before : Lines) (r
     print_gate g behind s = rw add-zero at (print_on (apply g) behind s after (puts_none after))
 
     pub print_outcome :
-        (f : After) (a behind : ℕ) → Stands op_line text at (measure f a) behind → (new : Lines) → Puts (outcome_line line a (outcome_told (get_or sheet k 0))) after new
+        (f : After) (a behind : ℕ) → Stands op_line text at (measure f a) behind → (new : Lines) → Puts (outcome_line line a (outcome_of (get_or sheet k 0))) after new
         → Printing text body n sheet before new behind (line + 1) (k + 1)
     print_outcome f a behind s = print_on (measure f a) behind s
 
@@ -157,8 +158,8 @@ module _ (text : List ℕ) (body n : ℕ) (sheet : List ℕ) (before : Lines) (r
       print_end new p =
           let rows = take (length sheet - k) (drop k sheet) in
           let e : rows ≡ drop k sheet = take_all (length sheet - k) (drop k sheet) (omega (arith, length-drop k sheet)) in
-          let a : outcome_lines 2 (lines_of n body text) (map outcome_told sheet) ≡ w.done =
-          w.so_far ∙ ap (λ (o : List Op). w.done ++ outcome_lines line o (map outcome_told (drop k sheet))) ended ∙ append-nil w.done in
+          let a : outcome_lines 2 (lines_of n body text) (map outcome_of sheet) ≡ w.done =
+          w.so_far ∙ ap (λ (o : List Op). w.done ++ outcome_lines line o (map outcome_of (drop k sheet))) ended ∙ append-nil w.done in
           let b : parts_closed (n + 1) (drop (count_measured (lines_of n body text)) sheet) (n + n) ≡ parts_closed (n + 1) rows (n + n) =
           ap (λ (s : List ℕ). parts_closed (n + 1) s (n + n)) (ap (λ (m : ℕ). drop m sheet) (sym print_count) ∙ sym e) in
           puts_as (ap₂ ◌++◌ a b) (puts_then w.puts p)

@@ -1,5 +1,4 @@
 -- The record of a run holds its lines: the outcomes by their characters, the rows end to end. Assumes nothing.
-use mathlib.Core.Bool.{Bool, true, false}
 use mathlib.Core.List.{List, [], ◌∷◌, ◌++◌, map, append_assoc}
 use mathlib.Core.Path.{◌≡◌, refl, sym, ◌∙◌, ap, ap₂}
 use Prim.Native.Nat.{ℕ, suc, ◌+◌, ◌*◌}
@@ -14,23 +13,18 @@ use Rattle.clifford.specs.declared.Op.TheVariants.{Gate as apply, Measure as mea
 use Rattle.clifford.specs.Tableau.{Rows}
 use Rattle.clifford.specs.declared.Outcome.{Outcome}
 use Rattle.circuit.specs.Text.{count_measured}
-use Rattle.records.specs.Record.{mark, mark_of, joined, rows_text}
+use Rattle.records.specs.Record.{mark, outcome_of, joined, rows_text}
+use Rattle.records.proofs.Outcomes.{mark_back}
 use Rattle.records.proofs.Joined.{listed_split, joined_append, block}
 use Rattle.records.proofs.Lengths.{length-row_text, length-joined}
 use Rattle.print_lines.specs.Line.{outcome_line}
 use Rattle.print_lines.specs.Rows.{parts_closed}
 use Rattle.print.specs.Printed.{outcome_lines, row_line, row_lines}
-use Rattle.print.specs.Parts.Sheets.{outcome_told, sheet_lines}
+use Rattle.print.specs.Parts.Sheets.{sheet_lines}
 
 -- a character tells its outcome
-mark_back : (random value : Bool) → outcome_told (mark_of random value) ≡ record { random = random; value = value }
-mark_back false false = refl
-mark_back false true = refl
-mark_back true false = refl
-mark_back true true = refl
-
 marks_lines : (line : ℕ) (ops : List Op) (outcomes : List Outcome) (rest : List ℕ) → count_measured ops ≡ length outcomes
-    → outcome_lines line ops (map outcome_told (map mark outcomes ++ rest)) ≡ outcome_lines line ops outcomes
+    → outcome_lines line ops (map outcome_of (map mark outcomes ++ rest)) ≡ outcome_lines line ops outcomes
 marks_lines line [] outcomes rest h = refl
 marks_lines line (apply g ∷ ops) outcomes rest h = marks_lines (suc line) ops outcomes rest (omega arith)
 marks_lines line (measure f a ∷ ops) [] rest h = absurd (omega arith)
@@ -67,5 +61,5 @@ unfolding sheet_lines
 sheet_is ops n outcomes t sheet rest h e =
     let b : drop (count_measured ops) sheet ≡ rows_text n t ++ rest =
     ap (drop (count_measured ops)) e ∙ drop_at (map mark outcomes) (rows_text n t ++ rest) (count_measured ops) (length-map outcomes mark ∙ sym h) in
-    ap₂ ◌++◌ (ap (λ (s : List ℕ). outcome_lines 2 ops (map outcome_told s)) e ∙ marks_lines 2 ops outcomes (rows_text n t ++ rest) h)
+    ap₂ ◌++◌ (ap (λ (s : List ℕ). outcome_lines 2 ops (map outcome_of s)) e ∙ marks_lines 2 ops outcomes (rows_text n t ++ rest) h)
     (ap (λ (s : List ℕ). parts_closed (n + 1) s (n + n)) b ∙ rows_closed n t rest)

@@ -8,9 +8,9 @@ ghost use Rattle.answers.specs.Refusals.{Writes};
 ghost use Rattle.lines.specs.Parts.Putting.{Puts};
 ghost use Rattle.walking.specs.Parts.Walk.{lines_of};
 ghost use Rattle.circuit.specs.Lines.{end_byte};
-ghost use Rattle.records.specs.Record.{longest_record};
+ghost use Rattle.records.specs.Record.{outcome_of, longest_record};
 ghost use Rattle.print.specs.Printed.{printed, Recorded, too_long, shot_printed};
-ghost use Rattle.print.specs.Parts.Sheets.{outcome_told, sheet_lines, Ready, ReadyAs, answer_lines, Answered};
+ghost use Rattle.print.specs.Parts.Sheets.{sheet_lines, Ready, ReadyAs, answer_lines, Answered};
 
 use answers::Refusal;
 use checking::Heading;
@@ -23,11 +23,11 @@ pub const MOST_INPUT: usize = 60000;
 
 // The outcome of a character of the record.
 fn outcome(mark: u8) -> Outcome
-    ensures { result ≡ outcome_told mark }
+    ensures { result ≡ outcome_of mark }
 {
     Outcome {
-        random: mark >= b'2',
-        value: mark % 2 == 1,
+        random: matches!(mark, b'2' | b'3'),
+        value: matches!(mark, b'1' | b'3'),
     }
 }
 

@@ -25,6 +25,7 @@ pub fn put_outcome(lines: &mut Lines, line: usize, qubit: usize, outcome: Outcom
     lines.byte(b'\n');
 }
 
+// The same text as the refusal's `Display`, put without `write!`, of which `Lines::number` speaks.
 pub fn put_refusal(lines: &mut Lines, refusal: Refusal)
     requires { lines.old.at + 50 < 2 ^ 64 }
     ensures { Puts (refusal_line (number_of refusal) (place_of refusal)) lines.old lines.new }

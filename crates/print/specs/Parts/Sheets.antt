@@ -1,5 +1,5 @@
 -- What the parts of the printer promise one another: the lines of a run, as its record holds them. Assumes nothing.
-use Rattle.std.specs.Prelude.{List, [], ◌++◌, map, ◌≡◌, ℕ, ◌+◌, ◌*◌, ◌%◌, ◌≤◌, eqb, leb, length, drop, Result, Ok, Err}
+use Rattle.std.specs.Prelude.{List, [], ◌++◌, map, ◌≡◌, ℕ, ◌+◌, ◌*◌, ◌≤◌, length, drop, Result, Ok, Err}
 use Rattle.limits.specs.Limits.{most_qubits, most_operations}
 use Rattle.answers.specs.Verdict.{accepted}
 use Rattle.answers.specs.declared.Refusal.{Refusal}
@@ -9,15 +9,12 @@ use Rattle.clifford.specs.declared.Op.{Op}
 use Rattle.clifford.specs.declared.Op.TheVariants.{Gate as apply, Measure as measure}
 use Rattle.clifford.specs.declared.Outcome.{Outcome}
 use Rattle.circuit.specs.Text.{operations, count_measured}
+use Rattle.records.specs.Record.{outcome_of}
 use Rattle.walking.specs.Parts.Walk.{lines_of}
 use Rattle.print_lines.specs.Line.{outcome_line, refusal_line}
 use Rattle.print_lines.specs.Rows.{parts_closed}
 use Rattle.run.specs.declared.Ran.{Ran}
 use Rattle.print.specs.Printed.{outcome_lines, printed, Recorded}
-
--- the outcome of a character of the record
-abbrev pub outcome_told : ℕ → Outcome
-outcome_told b = record { random = leb 50 b; value = eqb (b % 2) 1 }
 
 -- what an operation prints
 abbrev pub op_text : ℕ → Op → Outcome → List ℕ
@@ -26,7 +23,7 @@ op_text line (measure f a) o = outcome_line line a o
 
 -- the lines of a record whose run had these operations
 unfoldable pub sheet_lines : List Op → ℕ → List ℕ → List ℕ
-sheet_lines ops n sheet = outcome_lines 2 ops (map outcome_told sheet) ++ parts_closed (n + 1) (drop (count_measured ops) sheet) (n + n)
+sheet_lines ops n sheet = outcome_lines 2 ops (map outcome_of sheet) ++ parts_closed (n + 1) (drop (count_measured ops) sheet) (n + n)
 
 -- an accepted text whose operation lines begin at body, and a record of its run
 pub record Ready (text : List ℕ) (body n : ℕ) (sheet : List ℕ) : Type 0 where
