@@ -14,6 +14,7 @@ pub struct Lines<'a> {
 }
 
 impl Lines<'_> {
+    // Not by `get_mut`: of a buffer in a field, no proof learns what was written through what it lends.
     #[inline]
     pub fn byte(&mut self, b: u8)
         requires { self.old.at + 1 < 2 ^ 64 }
