@@ -7,7 +7,10 @@ use native.Mathlib.Decide.{dec_lt}
 use native.Mathlib.Nat.{add-zero, add-suc, zero-add}
 use native.Mathlib.Omega.{arith}
 use lib.Dec.{eqb}
-use lib.ListN.{get_or}
+use lib.ListN.{length, get_or}
+use Rattle.std.specs.List.{list_all, range_with_len}
+use Rattle.std.proofs.lemmas.List.FromFn.{length-range_with_len, get_or-range_with_len}
+use Rattle.std.proofs.lemmas.List.Sums.{AllPass-from_list_all, list_all-from_AllPass}
 use borrow.Author.Tests.{eqb-true, eqb-false}
 use Rattle.limits.specs.Limits.{most_qubits}
 use Rattle.pauli.specs.Letters.{x, z, letter}
@@ -71,15 +74,20 @@ module _ (v w : List ℕ) (o : ℕ) where
   pub group_words : equal_words (get_or v (o + 2) 0) (get_or w (o + 2) 0) && equal_words (get_or v (o + 3) 0) (get_or w (o + 3) 0) ≡ equal_groups v w o
   group_words = sym (all_split stabilizer_bits 64 64 ∙ ap₂ ◌&&◌ (all_cong _ _ 64 (λ i l. ap stabilizer_bits (sym (zero-add i))) ∙ in_word 2 0 refl) (in_word 3 64 refl))
 
--- one group more is equal
-pub groups_more : (v w : List ℕ) (q : ℕ) → ((p : ℕ) → p < q → equal_groups v w (4 * p) ≡ true) → equal_groups v w (4 * q) ≡ true → (p : ℕ) → p < q + 1 → equal_groups v w (4 * p) ≡ true
-groups_more v w q f e p l = go (dec_lt p q)
-  where
-    go : Dec (p < q) → equal_groups v w (4 * p) ≡ true
-    go (yes h) = f p h
-    go (no h) =
-        let k : p ≡ q = omega arith in
-        rw k e
+-- the groups of letters of n qubits, as the code goes over them
+abbrev pub group_equal : List ℕ → List ℕ → ℕ → Bool
+group_equal v w q = equal_groups v w (4 * q)
+
+module _ (f : ℕ → Bool) (m : ℕ) where
+  each_passes : list_all f (range_with_len 0 m) ≡ true → (q : ℕ) → q < m → f q ≡ true
+  each_passes e q h =
+      let k : get_or (range_with_len 0 m) q 0 ≡ q = get_or-range_with_len 0 m q 0 h ∙ zero-add q in
+      ap f (sym k) ∙ AllPass-from_list_all f (range_with_len 0 m) e q 0 (omega (arith, length-range_with_len 0 m))
+
+  all_pass : ((q : ℕ) → q < m → f q ≡ true) → list_all f (range_with_len 0 m) ≡ true
+  all_pass e = list_all-from_AllPass f (range_with_len 0 m) (λ (k : ℕ) (d : ℕ) (h : k < length (range_with_len 0 m)).
+      let l : k < m = omega (arith, length-range_with_len 0 m) in
+      ap f (get_or-range_with_len 0 m k d l ∙ zero-add k) ∙ e k l)
 
 -- ---- rows
 
@@ -153,18 +161,25 @@ module _ (n : ℕ) (v w : List ℕ) (most : n ≤ most_qubits) (hv : Holds n v) 
       go true e = sym d ∙ decides o f e
       go false e = refl
 
-  pub differ : (q : ℕ) → q < 2 * n → equal_groups v w (4 * q) ≡ false → false ≡ agree n v w
-  differ q l = differs (4 * q) (of_group q l)
+  pub differ : list_all (group_equal v w) (range_with_len 0 (2 * n)) ≡ false → false ≡ agree n v w
+  differ d = go (agree n v w) refl
+    where
+      go : (b : Bool) → agree n v w ≡ b → false ≡ b
+      go true e = sym d ∙ all_pass (group_equal v w) (2 * n) (λ q l. decides (4 * q) (of_group q l) e)
+      go false e = refl
 
   -- all groups of letters are equal, so that the signs decide
-  pub signs_decide : (q : ℕ) → 2 * n ≤ q → ((p : ℕ) → p < q → equal_groups v w (4 * p) ≡ true) → equal_groups v w sign_words ≡ agree n v w
-  signs_decide q all f = go (equal_groups v w sign_words) refl
+  pub signs_decide : list_all (group_equal v w) (range_with_len 0 (2 * n)) ≡ true → equal_groups v w sign_words ≡ agree n v w
+  signs_decide all = go (equal_groups v w sign_words) refl
     where
+      f : (p : ℕ) → p < 2 * n → group_equal v w p ≡ true
+      f = each_passes (group_equal v w) (2 * n) all
+
       equal_bit : (o i : ℕ) → i < most_qubits → equal_groups v w o ≡ true → bit_at v o (most_qubits + i) ≡ bit_at w o (most_qubits + i)
       equal_bit o i l e = bits_same (bit_at v o (most_qubits + i)) (bit_at w o (most_qubits + i)) (all_at (stabilizer_bits v w o) most_qubits e i l)
 
       in_group : (o p i : ℕ) → 4 * p ≡ o → p < 2 * n → i < most_qubits → bit_at v o (most_qubits + i) ≡ bit_at w o (most_qubits + i)
-      in_group o p i e l il = rw (sym e) (equal_bit (4 * p) i il (f p (omega arith)))
+      in_group o p i e l il = rw (sym e) (equal_bit (4 * p) i il (f p l))
 
       equal_row : equal_groups v w sign_words ≡ true → (i : ℕ) → i < n → row_by_row i ≡ true
       equal_row e i l =

@@ -1,6 +1,5 @@
 pub mod Copying
 pub mod Alike
 pub mod Groups
-pub mod Comparing
 pub mod OneAnswer
 pub mod Room

@@ -1,12 +1,12 @@
 -- Whether two records describe the same state: document 01, n equal and each stabilizer row equal, sign and letters, to the one at its place. Assumes nothing.
-use Rattle.std.specs.Prelude.{Bool, true, false, not, ◌&&◌, List, ℕ, zero, suc, eqb}
+use Rattle.std.specs.Prelude.{Bool, true, not, ◌&&◌, List, ℕ, zero, suc, eqb, Result, Ok, Err}
 use Rattle.answers.specs.Verdict.{accepted, refused}
 use Rattle.answers.specs.Refusals.{number_of, place_of}
 use Rattle.pauli.specs.Letters.{Letter, ◌⊕◌, x, z}
 use Rattle.pauli.specs.Rows.{Row}
 use Rattle.records.specs.Reading.{Read, read_of}
-use Rattle.archive.specs.declared.Same.{Same}
-use Rattle.archive.specs.declared.Same.TheVariants as same
+use Rattle.archive.specs.declared.Unread.{Unread}
+use Rattle.archive.specs.declared.Unread.TheVariants.{First, Second}
 
 -- all of the first n pass
 abbrev pub all_of : (ℕ → Bool) → ℕ → Bool
@@ -39,8 +39,8 @@ same_of first second =
       | refused number place ↦ first_refused number place
     ]
 
-abbrev pub told_same : Same → Compared
-told_same same.Equal = compared true
-told_same same.Different = compared false
-told_same (same.First r) = first_refused (number_of r) (place_of r)
-told_same (same.Second r) = second_refused (number_of r) (place_of r)
+-- what each answer says: same or not, or which of the two was refused, with its number and place
+abbrev pub told_same : Result Bool Unread → Compared
+told_same (Ok b) = compared b
+told_same (Err (First r)) = first_refused (number_of r) (place_of r)
+told_same (Err (Second r)) = second_refused (number_of r) (place_of r)

@@ -5,7 +5,7 @@ use mathlib.Core.List.{List}
 use Prim.Native.Nat.{ℕ, suc, ◌+◌, ◌*◌, ◌/◌, ◌%◌, ◌≤◌, ◌<◌}
 use native.Mathlib.Decide.{dec_lt}
 use native.Mathlib.Omega.{arith}
-use lib.ListN.{get_or}
+use lib.ListN.{length, get_or, set, length-set}
 use Rattle.limits.specs.Limits.{most_qubits}
 use Rattle.pauli.specs.Letters.{Letter, ◌⊕◌, letter, differ, x, z}
 use Rattle.pauli.specs.Rows.{odd_number, anticommute}
@@ -14,11 +14,12 @@ use Rattle.pauli.proofs.LetterLaws.{xor_adds, letter_bits, differ-none}
 use Rattle.pauli.proofs.RowLaws.{odd_split}
 use Rattle.pauli.proofs.Sums.{sum-cong, sum-plus}
 use Rattle.words.specs.Bit.{bit}
-use Rattle.packing.specs.View.{row_count, Words, bit_at, letter_at, Holds}
-use Rattle.packing.specs.Parts.Changes.{Changed}
-use Rattle.packing.proofs.Groups.{elsewhere}
+use Rattle.packing.specs.View.{row_count, letter_at, Holds}
+use Rattle.groups.specs.declared.Group.{Group}
+use Rattle.groups.specs.Parts.Rows.{row_bit, All}
 use Rattle.read_rows.specs.Parts.Loading.{column_of}
-use Rattle.column_sums.specs.Parts.Sums.{spelled_number, letter_numbered, tells, Sums, Picks, Against}
+use Rattle.column_sums.specs.Parts.Sums.{told_at, spelled_number, letter_numbered, tells, Sums, Picks, Against}
+use Rattle.column_sums.proofs.Tables.{told_here, told_other}
 use Rattle.column_sums.proofs.Picking.{number_small}
 
 -- ---- sums over two halves
@@ -27,15 +28,15 @@ odd_halves : (f : ℕ → Bool) (half : ℕ) → odd_number (λ j. f j ⊕ f (ha
 odd_halves f half = sum-plus xor_adds f (λ j. f (half + j)) half ∙ sym (odd_split f half half)
 
 -- the last place of an odd number of letters is taken together with one behind them, which tells nothing
-odd_padded : (f : ℕ → Bool) (n : ℕ) → (n < (n + 1) / 2 + (n + 1) / 2 → f n ≡ false) → odd_number f ((n + 1) / 2 + (n + 1) / 2) ≡ odd_number f n
-odd_padded f n h = go (dec_lt n ((n + 1) / 2 + (n + 1) / 2))
+odd_padded : (f : ℕ → Bool) (n half : ℕ) → n ≤ half + half → half + half ≤ n + 1 → (n < half + half → f n ≡ false) → odd_number f (half + half) ≡ odd_number f n
+odd_padded f n half a b h = go (dec_lt n (half + half))
   where
-    go : Dec (n < (n + 1) / 2 + (n + 1) / 2) → odd_number f ((n + 1) / 2 + (n + 1) / 2) ≡ odd_number f n
+    go : Dec (n < half + half) → odd_number f (half + half) ≡ odd_number f n
     go (yes l) =
-        let e : (n + 1) / 2 + (n + 1) / 2 ≡ suc n = omega arith in
+        let e : half + half ≡ suc n = omega arith in
         ap (odd_number f) e ∙ ap (λ (b : Bool). odd_number f n ⊕ b) (h l) ∙ xor_adds.right (odd_number f n)
     go (no l) =
-        let e : (n + 1) / 2 + (n + 1) / 2 ≡ n = omega arith in
+        let e : half + half ≡ n = omega arith in
         ap (odd_number f) e
 
 -- ---- one sum
@@ -64,47 +65,38 @@ tells_letters w half j a b s =
 
 -- ---- a row
 
-module _ (bytes : List ℕ) (n : ℕ) (w t p : List ℕ) (row : ℕ) (most : n ≤ most_qubits) (h : Holds n w) (a : Sums w ((n + 1) / 2) (16 * ((n + 1) / 2)) t)
-    (b : Picks bytes row ((n + 1) / 2) ((n + 1) / 2) p) where
-  abbrev half : ℕ
-  half = (n + 1) / 2
-
+module _ (letters : List ℕ) (n half : ℕ) (w : List ℕ) (t : List Group) (p : List ℕ) (enough : n ≤ half + half) (close : half + half ≤ n + 1) (most : n ≤ most_qubits) (h : Holds n w)
+    (a : Sums w half (16 * half) t) (b : Picks letters half p) where
   abbrev spelled : ℕ → Letter
-  spelled j = letter_of (get_or bytes (row + j) 0)
+  spelled j = letter_of (get_or letters j 0)
 
-  picked_sum : (j s : ℕ) → j < half → s < row_count
-      → bit_at t (64 * j + get_or p j 0) s ≡ differ (spelled j) (letter_at w s j) ⊕ differ (spelled (half + j)) (letter_at w s (half + j))
+  picked_sum : (j s : ℕ) → j < half → s < row_count → told_at t (16 * j + get_or p j 0) s ≡ differ (spelled j) (letter_at w s j) ⊕ differ (spelled (half + j)) (letter_at w s (half + j))
   picked_sum j s l m =
-      let u = get_or bytes (row + j) 0 in
-      let v = get_or bytes (row + half + j) 0 in
+      let u = get_or letters j 0 in
+      let v = get_or letters (half + j) 0 in
       let k = 16 * j + spelled_number u + 4 * spelled_number v in
-      let e : 64 * j + get_or p j 0 ≡ 4 * k = omega (arith, b.places j l) in
-      let q : row + half + j ≡ row + (half + j) = omega arith in
-      ap (λ (o : ℕ). bit_at t o s) e ∙ a.sums k s (omega (arith, number_small u, number_small v)) m ∙ tells_letters w half j u v s
-      ∙ ap (λ (o : ℕ). differ (spelled j) (letter_at w s j) ⊕ differ (letter_of (get_or bytes o 0)) (letter_at w s (half + j))) q
+      let e : 16 * j + get_or p j 0 ≡ k = omega (arith, b.places j l) in
+      ap (λ (o : ℕ). told_at t o s) e ∙ a.sums k s (omega (arith, number_small u, number_small v)) m ∙ tells_letters w half j u v s
 
-  pub picked_row : (s : ℕ) → s < row_count → odd_number (λ j. bit_at t (64 * j + get_or p j 0) s) half ≡ anticommute n spelled (letter_at w s)
+  pub picked_row : (s : ℕ) → s < row_count → odd_number (λ j. told_at t (16 * j + get_or p j 0) s) half ≡ anticommute n spelled (letter_at w s)
   picked_row s m =
       let f : ℕ → Bool = λ j. differ (spelled j) (letter_at w s j) in
       sum-cong xor_adds _ _ half (λ j l. picked_sum j s l m) ∙ odd_halves f half
-      ∙ odd_padded f n (λ l. ap (differ (spelled n)) (h.letters s n m (omega arith) (omega arith)) ∙ differ-none (spelled n))
+      ∙ odd_padded f n half enough close (λ l. ap (differ (spelled n)) (h.letters s n m (omega arith) (omega arith)) ∙ differ-none (spelled n))
 
 -- ---- all rows
 
-pub against_none : (bytes : List ℕ) (at n : ℕ) (w found : List ℕ) → Words found → Against bytes at n w 0 found
-against_none bytes at n w found l = record { words = l; bits = λ i s h m. absurd (omega arith) }
+pub against_none : (texts : List ℕ) (n : ℕ) (w : List ℕ) (found : List Group) → length found ≡ row_count → Against texts n w 0 found
+against_none texts n w found l = record { size = l; bits = λ i s h m. absurd (omega arith) }
 
-pub against_more : (bytes : List ℕ) (at n : ℕ) (w : List ℕ) (i row : ℕ) (old new : List ℕ) {f : ℕ → Bool} → row ≡ at + 1 + i * (n + 1) → Against bytes at n w i old → Changed (4 * i) f old new
-    → ((s : ℕ) → s < row_count → f s ≡ anticommute n (λ j. letter_of (get_or bytes (row + j) 0)) (letter_at w s)) → Against bytes at n w (i + 1) new
-against_more bytes at n w i row old new e a c g = record { words = c.words; bits = λ k s l m. go k s l m (dec_lt k i) }
+pub against_more : (texts : List ℕ) (n : ℕ) (w : List ℕ) (i : ℕ) (found : List Group) (g : Group) (letters : List ℕ) → i < row_count → Against texts n w i found
+    → ((j : ℕ) → j < n → letter_of (get_or letters j 0) ≡ column_of texts n j i) → All (λ s. row_bit g s ≡ anticommute n (λ j. letter_of (get_or letters j 0)) (letter_at w s))
+    → Against texts n w (i + 1) (set found i g)
+against_more texts n w i found g letters h a e c = record { size = length-set found i g ∙ a.size; bits = λ k s l m. go k s l m (dec_lt k i) }
   where
-    place : (j : ℕ) → letter_of (get_or bytes (row + j) 0) ≡ column_of bytes at n j i
-    place j =
-        let q : row + j ≡ at + i * (n + 1) + (1 + j) = omega arith in
-        ap (λ (k : ℕ). letter_of (get_or bytes k 0)) q
-
-    go : (k s : ℕ) → k < i + 1 → s < row_count → Dec (k < i) → bit_at new (4 * k) s ≡ anticommute n (λ j. column_of bytes at n j k) (letter_at w s)
-    go k s l m (yes u) = elsewhere c (4 * k) s m (λ b. omega arith) (λ b. omega arith) ∙ a.bits k s u m
+    go : (k s : ℕ) → k < i + 1 → s < row_count → Dec (k < i) → told_at (set found i g) k s ≡ anticommute n (λ j. column_of texts n j k) (letter_at w s)
+    go k s l m (yes u) = told_other found i k g (λ q. omega arith) s ∙ a.bits k s u m
     go k s l m (no u) =
         let q : k ≡ i = omega arith in
-        rw q (c.bits s m ∙ g s m ∙ sum-cong xor_adds _ _ n (λ j b. ap (λ (r : Letter). differ r (letter_at w s j)) (place j)))
+        ap (λ (o : ℕ). told_at (set found i g) o s) q ∙ told_here found i g (omega (arith, a.size)) s ∙ c s m
+        ∙ sum-cong xor_adds _ _ n (λ j b. ap (λ (r : Letter). differ r (letter_at w s j)) (e j b ∙ ap (column_of texts n j) (sym q)))

@@ -1,36 +1,18 @@
 -- Which sums a row's letters pick, and the sum of those. Assumes nothing.
-use mathlib.Core.Path.{◌≡◌, refl, ◌∙◌, ap, ap₂}
+use mathlib.Core.Path.{◌≡◌, refl, ◌∙◌, ap}
 use mathlib.Core.Bool.{Bool, true, false, cond}
 use mathlib.Core.List.{List}
-use Prim.Native.Nat.{ℕ, suc, ◌+◌, ◌*◌, ◌/◌, ◌%◌, ◌≤◌, ◌<◌}
+use Prim.Native.Nat.{ℕ, ◌+◌, ◌*◌, ◌≤◌, ◌<◌}
 use native.Mathlib.Decide.{dec_lt}
 use native.Mathlib.Omega.{arith}
-use lib.Bits.{bit_xor}
-use lib.ListN.{get_or, set, length-set, replicate}
-use lib.Seq.{get_or-set_same, get_or-set_other}
-use mir.Val.{bool_byte}
-use Rattle.pauli.specs.Letters.{◌⊕◌, x, z}
+use lib.ListN.{length, get_or, set, length-set, take, drop, length-drop, get_or-eq_default}
+use lib.Seq.{length-take-le, get_or-set_same, get_or-set_other, get_or-take, get_or-drop}
+use Rattle.pauli.specs.Letters.{x, z}
 use Rattle.pauli.specs.Rows.{odd_number}
 use Rattle.pauli.specs.Texts.{letter_of}
-use Rattle.words.proofs.BitLaws.{bit-xor, bit-zero}
-use Rattle.packing.specs.View.{row_count, bit_in, bit_at}
-use Rattle.packing.specs.Parts.Changes.{four}
-use Rattle.packing.proofs.Groups.{bit-each, bit-loads, loads}
-use Rattle.column_sums.specs.Parts.Sums.{half_most, spelled_number, Picks}
-
--- ---- the number of a letter
-
--- as the code puts it together
-pub bits_number : (p q : Bool) {p' q' : Bool} → p ≡ p' → q ≡ q' → bool_byte p + 2 * bool_byte q ≡ cond p' 1 0 + 2 * cond q' 1 0
-bits_number p q e f = ap₂ (λ (a b : ℕ). a + 2 * b) (byte p ∙ ap (λ (b : Bool). cond b 1 0) e) (byte q ∙ ap (λ (b : Bool). cond b 1 0) f)
-  where
-    byte : (b : Bool) → bool_byte b ≡ cond b 1 0
-    byte true = refl
-    byte false = refl
-
-pub byte_small : (b : Bool) → bool_byte b < 2
-byte_small true = omega arith
-byte_small false = omega arith
+use Rattle.groups.specs.declared.Group.{Group}
+use Rattle.groups.specs.Parts.Rows.{row_bit, All}
+use Rattle.column_sums.specs.Parts.Sums.{half_most, told_at, spelled_number, Picks}
 
 pub number_small : (b : ℕ) → spelled_number b < 4
 number_small b = go (x (letter_of b)) (z (letter_of b))
@@ -43,36 +25,58 @@ number_small b = go (x (letter_of b)) (z (letter_of b))
 
 -- ---- which sums are picked
 
-pub picks_none : (bytes : List ℕ) (at half : ℕ) → Picks bytes at half 0 (replicate half_most 0)
-picks_none bytes at half = record { size = refl; places = λ j l. absurd (omega arith) }
+-- the numbers of the first j of these letters, each times m, are added to what was there
+pub record Added (letters : List ℕ) (m j : ℕ) (old p : List ℕ) : Type 0 where
+  pub size : length p ≡ length old
+  pub added : (i : ℕ) → i < j → get_or p i 0 ≡ get_or old i 0 + m * spelled_number (get_or letters i 0)
+  pub others : (i : ℕ) → j ≤ i → get_or p i 0 ≡ get_or old i 0
 
-pub picks_more : (bytes : List ℕ) (at half j : ℕ) (p : List ℕ) (v : ℕ) → j < half_most → Picks bytes at half j p
-    → v ≡ 4 * spelled_number (get_or bytes (at + j) 0) + 16 * spelled_number (get_or bytes (at + half + j) 0) → Picks bytes at half (j + 1) (set p j v)
-picks_more bytes at half j p v h k e = record { size = length-set p j v ∙ k.size; places = λ i l. go i l (dec_lt i j) }
+pub added_none : (letters : List ℕ) (m : ℕ) (p : List ℕ) → Added letters m 0 p p
+added_none letters m p = record { size = refl; added = λ i l. absurd (omega arith); others = λ i l. refl }
+
+pub added_more : (letters : List ℕ) (m j : ℕ) (old p : List ℕ) (v : ℕ) → j < length old → Added letters m j old p → v ≡ get_or old j 0 + m * spelled_number (get_or letters j 0) → Added letters m (j + 1) old (set p j v)
+added_more letters m j old p v h a e = record {
+  size = length-set p j v ∙ a.size;
+  added = λ i l. go i l (dec_lt i j);
+  others = λ i l. get_or-set_other p j i v 0 (λ q. omega arith) ∙ a.others i (omega arith);
+}
   where
-    go : (i : ℕ) → i < j + 1 → Dec (i < j) → get_or (set p j v) i 0 ≡ 4 * spelled_number (get_or bytes (at + i) 0) + 16 * spelled_number (get_or bytes (at + half + i) 0)
-    go i l (yes u) = get_or-set_other p j i v 0 (λ q. omega arith) ∙ k.places i u
+    go : (i : ℕ) → i < j + 1 → Dec (i < j) → get_or (set p j v) i 0 ≡ get_or old i 0 + m * spelled_number (get_or letters i 0)
+    go i l (yes u) = get_or-set_other p j i v 0 (λ q. omega arith) ∙ a.added i u
     go i l (no u) =
         let q : i ≡ j = omega arith in
-        rw q (get_or-set_same p j v 0 (omega (arith, k.size)) ∙ e)
+        rw q (get_or-set_same p j v 0 (omega (arith, a.size)) ∙ e)
 
-pub picks_inside : {bytes : List ℕ} {at half m : ℕ} {p : List ℕ} → Picks bytes at half m p → (j : ℕ) → j < m → get_or p j 0 + 4 ≤ 64
-picks_inside {bytes} {at} {half} k j l = omega (arith, k.places j l, number_small (get_or bytes (at + j) 0), number_small (get_or bytes (at + half + j) 0))
+-- both halves
+module _ (letters : List ℕ) (half : ℕ) (most : half ≤ half_most) (l : half ≤ length letters) (h : length letters ≤ half + half) (zeros p q : List ℕ) (low high : List ℕ) where
+  pub picks_made : low ≡ take half letters → high ≡ drop half letters → length zeros ≡ half_most → ((i : ℕ) → get_or zeros i 0 ≡ 0)
+      → Added low 1 (length low) zeros p → Added high 4 (length high) p q → Picks letters half q
+  picks_made el eh size none a b = record { size = b.size ∙ a.size ∙ size; places = λ j v. place j v (dec_lt j (length high)) }
+    where
+      low_size : length low ≡ half
+      low_size = ap length el ∙ length-take-le half letters l
+
+      high_size : half + length high ≡ length letters
+      high_size = omega (arith, ap length eh, length-drop half letters)
+
+      first : (j : ℕ) → j < half → get_or p j 0 ≡ spelled_number (get_or letters j 0)
+      first j v =
+          let e : get_or low j 0 ≡ get_or letters j 0 = ap (λ (s : List ℕ). get_or s j 0) el ∙ get_or-take half letters j 0 v in
+          omega (arith, a.added j (omega (arith, low_size)), none j, ap spelled_number e)
+
+      place : (j : ℕ) → j < half → Dec (j < length high) → get_or q j 0 ≡ spelled_number (get_or letters j 0) + 4 * spelled_number (get_or letters (half + j) 0)
+      place j v (yes u) =
+          let e : get_or high j 0 ≡ get_or letters (half + j) 0 = ap (λ (s : List ℕ). get_or s j 0) eh ∙ get_or-drop half letters j 0 in
+          omega (arith, b.added j u, first j v, ap spelled_number e)
+      place j v (no u) =
+          let e : get_or letters (half + j) 0 ≡ 0 = get_or-eq_default letters 0 {n = half + j} (omega (arith, high_size)) in
+          omega (arith, b.others j (omega arith), first j v, ap spelled_number e)
+
+pub picks_small : {letters : List ℕ} {half : ℕ} {p : List ℕ} → Picks letters half p → (j : ℕ) → j < half → get_or p j 0 < 16
+picks_small {letters} {half} k j l = omega (arith, k.places j l, number_small (get_or letters j 0), number_small (get_or letters (half + j) 0))
 
 -- ---- the sum of those picked
 
--- four words that are the sum of the first m
-abbrev pub SumOf : List ℕ → List ℕ → ℕ → (ℕ → ℕ) → Type 0
-SumOf t p m g = (s : ℕ) → s < row_count → bit_in g s ≡ odd_number (λ j. bit_at t (64 * j + get_or p j 0) s) m
-
-pub sum-none : (t p : List ℕ) → SumOf t p 0 (four 0 0 0 0)
-sum-none t p s l = bit-each (λ k. 0) s l ∙ bit-zero (s % 64)
-
-pub sum_more : (t p : List ℕ) (j a b c d o : ℕ) → o ≡ 64 * j + get_or p j 0 → SumOf t p j (four a b c d)
-    → SumOf t p (j + 1) (four (bit_xor a (get_or t o 0)) (bit_xor b (get_or t (o + 1) 0)) (bit_xor c (get_or t (o + 2) 0)) (bit_xor d (get_or t (o + 3) 0)))
-sum_more t p j a b c d o e h s l =
-    let g : ℕ → ℕ = four a b c d in
-    let q : suc j ≡ j + 1 = omega arith in
-    bit-each (λ k. bit_xor (g k) (loads t o k)) s l ∙ bit-xor (s % 64) (g (s / 64)) (loads t o (s / 64))
-    ∙ ap₂ ◌⊕◌ (h s l) (bit-loads t o s l ∙ ap (λ (k : ℕ). bit_at t k s) e)
-    ∙ ap (odd_number (λ k. bit_at t (64 * k + get_or p k 0) s)) q
+-- a group that is the sum of the first m
+abbrev pub SumOf : List Group → List ℕ → ℕ → Group → Type 0
+SumOf t p m g = All (λ s. row_bit g s ≡ odd_number (λ j. told_at t (16 * j + get_or p j 0) s) m)

@@ -1,39 +1,43 @@
 -- The sums of two columns, one after another: what a letter tells of the packed rows, and a table that gets one sum more, or the four of one more letter. Assumes nothing.
 use mathlib.Core.Path.{◌≡◌, sym, ap, ap₂, ◌∙◌}
-use mathlib.Core.Bool.{Bool, ◌&&◌}
-use mathlib.Core.List.{List, [], ◌∷◌}
-use Prim.Native.Nat.{ℕ, ◌+◌, ◌*◌, ◌/◌, ◌%◌, ◌<◌}
+use mathlib.Core.Bool.{Bool}
+use mathlib.Core.List.{List}
+use Prim.Native.Nat.{ℕ, ◌+◌, ◌*◌, ◌/◌, ◌%◌, ◌≤◌, ◌<◌}
 use native.Mathlib.Decide.{dec_lt}
 use native.Mathlib.Omega.{arith}
-use lib.ListN.{length}
+use mathlib.Core.Logic.{◌≢◌}
+use lib.ListN.{length, set, length-set}
+use lib.Seq.{get_or-set_same, get_or-set_other}
+use Rattle.groups.specs.declared.Group.{Group}
+use Rattle.groups.specs.Parts.Rows.{row_bit}
 use Rattle.pauli.specs.Letters.{Letter, ◌⊕◌, letter, differ}
-use Rattle.pauli.proofs.Cases as cases
-use Rattle.packing.specs.View.{row_count, bit_at, letter_at}
-use Rattle.packing.specs.Parts.Changes.{Replaced}
-use Rattle.packing.proofs.Groups.{elsewhere}
+use Rattle.packing.specs.View.{row_count, letter_at}
 use Rattle.groups.specs.Parts.Rows.{All}
 use Rattle.words.proofs.BitLaws.{bit-zero}
-use Rattle.column_sums.specs.Parts.Sums.{sum_count, letter_numbered, tells, Sums}
-
--- when letters differ, by their bits
-pub differ-bits : (p q r t : Bool) → (p && t) ⊕ (q && r) ≡ differ (letter p q) (letter r t)
-differ-bits = cases.tested (cases.bit ∷ cases.bit ∷ cases.bit ∷ cases.bit ∷ []) cases.bit _ _ tt
+use Rattle.column_sums.specs.Parts.Sums.{sum_count, no_rows, told_at, letter_numbered, tells, Sums}
 
 -- the letter of number 0 is I, which differs from none
 pub none_differs : (l : Letter) (b : Bool) → differ (letter_numbered 0) l ⊕ b ≡ b
 none_differs l b = ap (λ (a : Letter). differ a l ⊕ b) (ap₂ letter (bit-zero 0) (bit-zero 1))
 
-pub sums_none : (w : List ℕ) (half : ℕ) (t : List ℕ) → length t ≡ sum_count → Sums w half 0 t
+-- one group of some is another
+pub told_here : (t : List Group) (k : ℕ) (g : Group) → k < length t → (s : ℕ) → told_at (set t k g) k s ≡ row_bit g s
+told_here t k g h s = ap (λ (r : Group). row_bit r s) (get_or-set_same t k g no_rows h)
+
+pub told_other : (t : List Group) (i k : ℕ) (g : Group) → k ≢ i → (s : ℕ) → told_at (set t i g) k s ≡ told_at t k s
+told_other t i k g h s = ap (λ (r : Group). row_bit r s) (get_or-set_other t i k g no_rows h)
+
+pub sums_none : (w : List ℕ) (half : ℕ) (t : List Group) → length t ≡ sum_count → Sums w half 0 t
 sums_none w half t l = record { size = l; sums = λ k s h. absurd (omega arith) }
 
-pub sums_more : {w : List ℕ} {half m : ℕ} {f : ℕ → Bool} {t t' : List ℕ} → Sums w half m t → Replaced sum_count (4 * m) f t t' → All (λ s. f s ≡ tells w half m s) → Sums w half (m + 1) t'
-sums_more {w} {half} {m} {f} {t} {t'} a c e = record { size = c.words; sums = λ k s h l. go k s h l (dec_lt k m) }
+pub sums_more : {w : List ℕ} {half : ℕ} (m : ℕ) {t : List Group} (g : Group) → m < sum_count → Sums w half m t → All (λ s. row_bit g s ≡ tells w half m s) → Sums w half (m + 1) (set t m g)
+sums_more {w} {half} m {t} g below a e = record { size = length-set t m g ∙ a.size; sums = λ k s h l. go k s h l (dec_lt k m) }
   where
-    go : (k s : ℕ) → k < m + 1 → s < row_count → Dec (k < m) → bit_at t' (4 * k) s ≡ tells w half k s
-    go k s h l (yes b) = elsewhere c (4 * k) s l (λ p. omega arith) (λ p. omega arith) ∙ a.sums k s b l
+    go : (k s : ℕ) → k < m + 1 → s < row_count → Dec (k < m) → told_at (set t m g) k s ≡ tells w half k s
+    go k s h l (yes b) = told_other t m k g (λ q. omega arith) s ∙ a.sums k s b l
     go k s h l (no b) =
         let i : k ≡ m = omega arith in
-        rw i (c.bits s l ∙ e s l)
+        ap (λ (n : ℕ). told_at (set t m g) n s) i ∙ told_here t m g (omega (arith, a.size)) s ∙ e s l ∙ ap (λ (n : ℕ). tells w half n s) (sym i)
 
 module _ (w : List ℕ) (half j e : ℕ) (el : e < 4) where
   -- what the sum of the letters of numbers q and e tells of row s
@@ -52,25 +56,23 @@ module _ (w : List ℕ) (half j e : ℕ) (el : e < 4) where
       (ap₂ (λ (k i : ℕ). differ (letter_numbered k) (letter_at w s i)) a d)
       (ap₂ (λ (k i : ℕ). differ (letter_numbered k) (letter_at w s (half + i))) b d)
 
-  next : (q o : ℕ) {f : ℕ → Bool} {t t' : List ℕ} → q < 4 → o ≡ 4 * (16 * j + 4 * e + q) → Sums w half (16 * j + 4 * e + q) t → Replaced sum_count o f t t'
-      → All (λ s. f s ≡ two q s) → Sums w half (16 * j + 4 * e + (q + 1)) t'
-  next q o {f} {t} {t'} ql i a c b =
-      let k : 16 * j + 4 * e + q + 1 ≡ 16 * j + 4 * e + (q + 1) = omega arith in
-      let r : Sums w half (16 * j + 4 * e + q + 1) t' = sums_more a (rw i at c) (λ s l. b s l ∙ two_tell q s ql) in
-      rw k at r
+  next : (q o : ℕ) {t : List Group} (g : Group) → q < 4 → o ≡ 16 * j + 4 * e + q → o < sum_count → Sums w half o t → All (λ s. row_bit g s ≡ two q s) → Sums w half (o + 1) (set t o g)
+  next q o {t} g ql i h a b = sums_more o g h a (λ s l. b s l ∙ two_tell q s ql ∙ ap (λ (m : ℕ). tells w half m s) (sym i))
 
   -- the four sums of the letter of number e on the second qubit
-  pub four_more : {f0 f1 f2 f3 : ℕ → Bool} {t0 t1 t2 t3 t4 : List ℕ} → Sums w half (16 * j + 4 * e) t0
-      → Replaced sum_count (64 * j + 16 * e) f0 t0 t1 → All (λ s. f0 s ≡ two 0 s)
-      → Replaced sum_count (64 * j + 16 * e + 4) f1 t1 t2 → All (λ s. f1 s ≡ two 1 s)
-      → Replaced sum_count (64 * j + 16 * e + 8) f2 t2 t3 → All (λ s. f2 s ≡ two 2 s)
-      → Replaced sum_count (64 * j + 16 * e + 12) f3 t3 t4 → All (λ s. f3 s ≡ two 3 s) → Sums w half (16 * j + 4 * (e + 1)) t4
-  four_more {f0} {f1} {f2} {f3} {t0} {t1} {t2} {t3} {t4} a c0 b0 c1 b1 c2 b2 c3 b3 =
-      let i : 16 * j + 4 * e ≡ 16 * j + 4 * e + 0 = omega arith in
-      let k : 16 * j + 4 * e + 4 ≡ 16 * j + 4 * (e + 1) = omega arith in
-      let a0 : Sums w half (16 * j + 4 * e + 0) t0 = rw i at a in
-      let a1 : Sums w half (16 * j + 4 * e + 1) t1 = next 0 _ (omega arith) (omega arith) a0 c0 b0 in
-      let a2 : Sums w half (16 * j + 4 * e + 2) t2 = next 1 _ (omega arith) (omega arith) a1 c1 b1 in
-      let a3 : Sums w half (16 * j + 4 * e + 3) t3 = next 2 _ (omega arith) (omega arith) a2 c2 b2 in
-      let a4 : Sums w half (16 * j + 4 * e + 4) t4 = next 3 _ (omega arith) (omega arith) a3 c3 b3 in
-      rw k at a4
+  pub four_more : {t : List Group} (g0 g1 g2 g3 : Group) → 16 * j + 4 * e + 4 ≤ sum_count → Sums w half (16 * j + 4 * e) t
+      → All (λ s. row_bit g0 s ≡ two 0 s) → All (λ s. row_bit g1 s ≡ two 1 s) → All (λ s. row_bit g2 s ≡ two 2 s) → All (λ s. row_bit g3 s ≡ two 3 s)
+      → let o = 16 * j + 4 * e in Sums w half (16 * j + 4 * (e + 1)) (set (set (set (set t o g0) (o + 1) g1) (o + 2) g2) (o + 3) g3)
+  four_more {t} g0 g1 g2 g3 h a b0 b1 b2 b3 =
+      let o = 16 * j + 4 * e in
+      let k1 : o + 1 + 1 ≡ o + 2 = omega arith in
+      let k2 : o + 2 + 1 ≡ o + 3 = omega arith in
+      let k3 : o + 3 + 1 ≡ 16 * j + 4 * (e + 1) = omega arith in
+      let t1 = set t o g0 in
+      let t2 = set t1 (o + 1) g1 in
+      let t3 = set t2 (o + 2) g2 in
+      let a1 : Sums w half (o + 1) t1 = next 0 o g0 (omega arith) (omega arith) (omega arith) a b0 in
+      let a2 : Sums w half (o + 1 + 1) t2 = next 1 (o + 1) g1 (omega arith) (omega arith) (omega arith) a1 b1 in
+      let a3 : Sums w half (o + 2 + 1) t3 = next 2 (o + 2) g2 (omega arith) (omega arith) (omega arith) (rw k1 at a2) b2 in
+      let a4 : Sums w half (o + 3 + 1) (set t3 (o + 3) g3) = next 3 (o + 3) g3 (omega arith) (omega arith) (omega arith) (rw k2 at a3) b3 in
+      rw k3 at a4

@@ -3,31 +3,29 @@ use mathlib.Core.Path.{◌≡◌, refl, sym, ◌∙◌, ap, ap₂}
 use mathlib.Core.Bool.{Bool, true, false}
 use mathlib.Core.List.{List}
 use Rattle.std.specs.Prelude.{Option, None, Some}
-use Prim.Native.Nat.{ℕ, suc, ◌+◌, ◌-◌, ◌*◌, ◌%◌, ◌≤◌, ◌<◌}
+use Prim.Native.Nat.{ℕ, ◌+◌, ◌-◌, ◌%◌, ◌≤◌, ◌<◌}
 use native.Mathlib.Decide.{dec_lt}
 use native.Mathlib.Omega.{arith}
 use lib.Dec.{eqb}
-use lib.ListN.{get_or, drop}
-use lib.Seq.{get_or-take, get_or-drop}
 use borrow.Author.Tests.{lt-ltb, le-ltb, ne_eqb}
 use Rattle.limits.specs.Limits.{most_qubits}
 use Rattle.answers.specs.First.{lowest}
-use Rattle.answers.proofs.First.{Answer, lowest_is, lowest_none}
+use Rattle.answers.proofs.First.{Answer, lowest_is, lowest_some, lowest_none}
 use Rattle.pauli.specs.Letters.{◌⊕◌, differ}
 use Rattle.pauli.specs.Rows.{Row, Letters, anticommute}
-use Rattle.pauli.specs.Texts.{letter_of}
 use Rattle.pauli.proofs.LetterLaws.{xor_adds, differ-none}
 use Rattle.pauli.proofs.RowLaws.{anticommute-self, anticommute-swap}
 use Rattle.pauli.proofs.Sums.{sum-cong, sum-zero}
-use Rattle.packing.specs.View.{row_count, bit_at, letter_at, rows_of, Holds}
+use Rattle.packing.specs.View.{row_count, letter_at, rows_of, Holds}
 use Rattle.packing.proofs.Determined.{row_letter}
 use Rattle.packing.proofs.Views.{rows_in}
-use Rattle.records.specs.Reading.{is_some, wrong_pair}
+use Rattle.records.specs.Reading.{is_some, wrong_pair, first_wrong}
 use Rattle.clifford.specs.Tableau.{numbered}
 use Rattle.clifford.proofs.Partners.{numbered_low, numbered_high}
 use Rattle.records.proofs.Pairs.{xor_same, same_xor}
-use Rattle.read_rows.specs.Parts.Loading.{column_of, in_record, First, Loaded}
-use Rattle.column_sums.specs.Parts.Sums.{Against}
+use Rattle.read_rows.specs.Parts.Loading.{column_of, in_record, Loaded}
+use Rattle.column_sums.specs.Parts.Sums.{told_at, Against}
+use Rattle.groups.specs.declared.Group.{Group}
 use Rattle.pairing.specs.Parts.Partners.{partner, Right, Rights}
 use Rattle.pairing.proofs.Numbers.{number, number_low, number_high, number_row, partner_row, numbered_row, in_order, own_partner, partners_swap, upper_partner}
 
@@ -61,7 +59,10 @@ module _ (n : ℕ) (w : List ℕ) (most : n ≤ most_qubits) (held : Holds n w) 
   no_row : (s t : ℕ) → t < row_count → n ≤ t % most_qubits → cross s t ≡ false
   no_row s t h m = sum-cong xor_adds _ _ n (λ q u. ap (differ (letter_at w s q)) (sym (row_letter n w t q u) ∙ ap (λ (r : Row). r.letters q) (held.rows t h m)) ∙ differ-none (letter_at w s q)) ∙ sum-zero xor_adds n
 
-  module _ (found : List ℕ) (told : (i s : ℕ) → i < n + n → s < row_count → bit_at found (4 * i) s ≡ cross (number n i) s) where
+  module _ (found : List Group) (told : (i s : ℕ) → i < n + n → s < row_count → told_at found i s ≡ cross (number n i) s) where
+    abbrev lower_wrong : ℕ → Bool
+    lower_wrong i = is_some (lowest (wrong_pair n (rows_of n w) i) (n + n))
+
     -- a row that is right is the lower row of no wrong pair
     right_pairs : (i : ℕ) → i < n + n → Right found n i → (j : ℕ) → j < n + n → wrong_pair n (rows_of n w) i j ≡ false
     right_pairs i h r j l = go (dec_lt i j)
@@ -95,27 +96,26 @@ module _ (n : ℕ) (w : List ℕ) (most : n ≤ most_qubits) (held : Holds n w) 
             other : s % most_qubits ≡ partner n i % most_qubits → ⊥
             other e = let p = partner_row n most i h in absurd (omega arith)
 
-    pub judged : (p : ℕ) → Rights found n p → First (λ i. is_some (lowest (wrong_pair n (rows_of n w) i) (n + n))) (n + n) p
-    judged p r = record {
-      within = r.within;
-      before = λ k l. ap is_some (lowest_none _ (n + n) (right_pairs k (omega (arith, r.within)) (r.before k l)));
-      here = λ l. go l (lowest (wrong_pair n (rows_of n w) p) (n + n)) (lowest_is (wrong_pair n (rows_of n w) p) (n + n));
-    }
+    pub judged : (o : Option ℕ) → Rights found n o → o ≡ first_wrong n (rows_of n w)
+    unfolding first_wrong
+    judged None r = sym (lowest_none lower_wrong (n + n) (λ k l. ap is_some (lowest_none _ (n + n) (right_pairs k l (r k l)))))
+    judged (Some p) r = sym (lowest_some lower_wrong (n + n) p (record {
+      below = r.0;
+      passes = go (lowest (wrong_pair n (rows_of n w) p) (n + n)) (lowest_is (wrong_pair n (rows_of n w) p) (n + n));
+      first = λ k l. ap is_some (lowest_none _ (n + n) (right_pairs k (omega arith) (r.1 k l)));
+    }))
       where
-        go : p < n + n → (o : Option ℕ) → Answer (wrong_pair n (rows_of n w) p) (n + n) o → is_some o ≡ true
-        go l (Some j) k = refl
-        go l None k = absurd (r.here l (pairs_right p l r.before k))
+        go : (o : Option ℕ) → Answer (wrong_pair n (rows_of n w) p) (n + n) o → is_some o ≡ true
+        go (Some j) k = refl
+        go None k = absurd (r.2 (pairs_right p r.0 r.1 k))
 
 -- the rows that a record spells are the packed rows, by their numbers
-module _ (s : List ℕ) (at n : ℕ) (w : List ℕ) (most : n ≤ most_qubits) (loaded : Loaded s at n w) where
-  spelled_letter : (i q : ℕ) → i < n + n → q < n → column_of s at n q i ≡ letter_at w (number n i) q
+module _ (s : List ℕ) (n : ℕ) (w : List ℕ) (most : n ≤ most_qubits) (loaded : Loaded s n w) where
+  spelled_letter : (i q : ℕ) → i < n + n → q < n → column_of s n q i ≡ letter_at w (number n i) q
   spelled_letter i q h l =
       let k = number n i in
       let m = number_row n most i h in
-      let o : at + in_record n k * (n + 1) ≡ at + i * (n + 1) = ap (λ (r : ℕ). at + r * (n + 1)) (in_order n most i h) in
-      sym (sym (row_letter n w k q l) ∙ ap (λ (r : Row). r.letters q) (loaded.rows k m.0 m.1)
-      ∙ ap letter_of (get_or-take (n + 1) (drop (at + in_record n k * (n + 1)) s) (suc q) 0 (omega arith) ∙ get_or-drop (at + in_record n k * (n + 1)) s (suc q) 0
-      ∙ ap (λ (r : ℕ). get_or s (r + suc q) 0) o ∙ ap (λ (r : ℕ). get_or s (at + i * (n + 1) + r) 0) (omega arith)))
+      sym (sym (row_letter n w k q l) ∙ ap (λ (r : Row). r.letters q) (loaded.rows k m.0 m.1) ∙ ap (column_of s n q) (in_order n most i h))
 
-  pub spelled_against : (found : List ℕ) → Against s at n w (n + n) found → (i t : ℕ) → i < n + n → t < row_count → bit_at found (4 * i) t ≡ anticommute n (letter_at w (number n i)) (letter_at w t)
+  pub spelled_against : (found : List Group) → Against s n w (n + n) found → (i t : ℕ) → i < n + n → t < row_count → told_at found i t ≡ anticommute n (letter_at w (number n i)) (letter_at w t)
   spelled_against found a i t h l = a.bits i t h l ∙ same_letters n _ _ _ _ (λ q m. spelled_letter i q h m) (λ q m. refl)

@@ -2,16 +2,18 @@
 // is wrong with any other is the lower row of the first wrong pair, since those before it are right with all.
 #![tactic(auto)]
 
-ghost use Rattle.std.specs.Prelude.{◌≡◌, ℕ, ◌+◌, ◌*◌, ◌≤◌, ◌<◌, length};
-ghost use Rattle.answers.specs.First.{lowest};
+ghost use Rattle.std.specs.Prelude.{◌≡◌, ◌+◌, ◌≤◌, ◌<◌, ◌↔◌, eqb, IsTrue};
 ghost use Rattle.limits.specs.Limits.{most_qubits};
-ghost use Rattle.packing.specs.View.{Words, rows_of};
-ghost use Rattle.records.specs.Reading.{is_some, wrong_pair};
-ghost use Rattle.read_rows.specs.Parts.Loading.{First, Loaded};
+ghost use Rattle.groups.specs.Parts.Rows.{row_bit, All};
+ghost use Rattle.packing.specs.View.{rows_of};
+ghost use Rattle.records.specs.Reading.{first_wrong};
+ghost use Rattle.read_rows.specs.Parts.Loading.{Loaded};
 ghost use Rattle.pairing.specs.Parts.Partners.{partner, Rights};
 
+use column_sums::ROWS;
 use groups::Group;
 use packing::Words;
+use read_rows::RowTexts;
 
 // The number that the partner of row i of the 2n has among the packed rows.
 fn partner(n: usize, i: usize) -> usize
@@ -19,32 +21,36 @@ fn partner(n: usize, i: usize) -> usize
     ensures { result ≡ partner n i }
 {
     if i < n {
-        return limits::MOST_QUBITS + i;
+        limits::MOST_QUBITS + i
+    } else {
+        i - n
     }
-    i - n
+}
+
+fn tells_only(g: Group, t: usize) -> bool
+    ensures { IsTrue result ↔ All (λ s. row_bit g s ≡ eqb s t) }
+{
+    g == Group::row(t)
 }
 
 // The first row of the 2n that other rows than its partner anticommute with, or not its partner.
-fn first_wrong(found: &Words, n: usize) -> usize
+fn first_wrong(found: &[Group; ROWS], n: usize) -> Option<usize>
     requires { n ≤ most_qubits }
     ensures { Rights found.now n result }
 {
-    let mut i: usize = 0;
-    while i < n + n {
-        if Group::load(found, 4 * i) != Group::row(partner(n, i)) {
-            return i;
+    for i in 0..n + n {
+        if !tells_only(found[i], partner(n, i)) {
+            return Some(i);
         }
-        i += 1;
     }
-    i
+    None
 }
 
-// The lower row of the first wrong pair of the 2n rows, or 2n.
-pub fn unpaired(bytes: &[u8], at: usize, n: usize, w: &Words) -> usize
-    requires { (n ≤ most_qubits) × (at + 2 * (n * (n + 1)) < length bytes.now) × Loaded bytes.now at n w.now }
-    ensures { First (λ i. is_some (lowest (wrong_pair n (rows_of n w.now) i) (n + n))) (n + n) result }
+// The lower row of the first wrong pair of the 2n rows, which the words hold.
+pub fn unpaired(rows: &RowTexts, w: &Words) -> Option<usize>
+    requires { Loaded rows.now.bytes.now rows.now.qubits w.now }
+    ensures { result ≡ first_wrong rows.now.qubits (rows_of rows.now.qubits w.now) }
 {
-    let mut found = [0u64; packing::WORDS];
-    column_sums::against(bytes, at, n, w, &mut found);
-    first_wrong(&found, n)
+    let found = column_sums::against(rows, w);
+    first_wrong(&found, rows.qubits)
 }

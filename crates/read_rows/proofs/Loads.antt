@@ -4,11 +4,9 @@ use mathlib.Core.Bool.{Bool, true, false, ◌&&◌, cond}
 use mathlib.Core.List.{List}
 use Prim.Native.Nat.{ℕ, suc, ◌+◌, ◌*◌, ◌/◌, ◌%◌, ◌≤◌, ◌<◌}
 use native.Mathlib.Decide.{dec_lt}
-use native.Mathlib.Nat.{add-mul, mul-le-mul_right}
 use native.Mathlib.Omega.{arith}
-use lib.Dec.{eqb, ltb}
-use lib.ListN.{get_or, take, drop, length-take, get_or-eq_default}
-use lib.Seq.{get_or-take, get_or-drop}
+use lib.Dec.{ltb}
+use lib.ListN.{get_or, drop, length-take, get_or-eq_default}
 use borrow.Author.Tests.{lt-ltb, le-ltb}
 use Rattle.limits.specs.Limits.{most_qubits}
 use Rattle.pauli.specs.Letters.{Letter, I, x, z, letter}
@@ -19,26 +17,22 @@ use Rattle.packing.proofs.Groups.{each_of, word_of}
 use Rattle.packing.proofs.Views.{guarded, row_eq}
 use Rattle.words.specs.Bit.{bit}
 use Rattle.words.proofs.BitLaws.{bit-zero}
-use Rattle.read_rows.specs.Parts.Loading.{column_of, Placed, Share, in_record, Loaded}
+use Rattle.read_rows.specs.Parts.Loading.{column_of, sign_of, Placed, Share, in_record, Loaded}
+use Rattle.read_rows.specs.Texts.{text_of}
 
 -- ---- where the rows of word g begin
 
--- all of them lie within the 2n rows
-pub rows_within : (n g count : ℕ) → g < 4 → 0 < count → 64 * (g % 2) + count ≤ n → (n * (g / 2) + 64 * (g % 2)) * (n + 1) + count * (n + 1) ≤ 2 * (n * (n + 1))
-rows_within n g count gl h l =
-    let few : n * (g / 2) + 64 * (g % 2) + count ≤ n + n = each_of (λ g. 64 * (g % 2) + count ≤ n → n * (g / 2) + 64 * (g % 2) + count ≤ n + n) (λ q. omega arith) (λ q. omega arith) (λ q. omega arith) (λ q. omega arith) g gl l in
-    omega (arith, mul-le-mul_right (n + 1) few, add-mul (n * (g / 2) + 64 * (g % 2)) count (n + 1), add-mul n n (n + 1))
+-- all of them are among the 2n
+pub rows_within : (n g count : ℕ) → g < 4 → 64 * (g % 2) + count ≤ n → n * (g / 2) + 64 * (g % 2) + count ≤ n + n
+rows_within n g count h l = each_of (λ g. 64 * (g % 2) + count ≤ n → n * (g / 2) + 64 * (g % 2) + count ≤ n + n) (λ q. omega arith) (λ q. omega arith) (λ q. omega arith) (λ q. omega arith) g h l
 
-pub row_below : (n g : ℕ) → g < 4 → n * (g / 2) ≤ n
-row_below n = each_of (λ g. n * (g / 2) ≤ n) (omega arith) (omega arith) (omega arith) (omega arith)
-
-module _ (s : List ℕ) (at n : ℕ) where
+module _ (s : List ℕ) (n : ℕ) where
   -- the letter and the sign that row k is to have
   abbrev wanted : ℕ → ℕ → Letter
-  wanted k j = cond (ltb (k % most_qubits) n) (column_of s at n j (in_record n k)) I
+  wanted k j = cond (ltb (k % most_qubits) n) (column_of s n j (in_record n k)) I
 
   abbrev wanted_sign : ℕ → Bool
-  wanted_sign k = ltb (k % most_qubits) n && eqb (get_or s (at + in_record n k * (n + 1)) 0) 45
+  wanted_sign k = ltb (k % most_qubits) n && sign_of s n (in_record n k)
 
   -- the rows of the first g words are there; no other word has a bit set, and none from qubit n on
   pub record Begun (g : ℕ) (w : List ℕ) : Type 0 where
@@ -69,14 +63,10 @@ module _ (s : List ℕ) (at n : ℕ) where
     passes : ltb (k % 64) count ≡ ltb (k % most_qubits) n
     passes = sh.rows (k % 64) (omega arith) ∙ ap (λ (m : ℕ). ltb m n) (sym in_half)
 
-    same_place : at + (n * (g / 2) + 64 * (g % 2)) * (n + 1) + k % 64 * (n + 1) ≡ at + in_record n k * (n + 1)
-    same_place =
+    same_row : n * (g / 2) + 64 * (g % 2) + k % 64 ≡ in_record n k
+    same_row =
         let u : n * (g / 2) ≡ n * (k / most_qubits) = ap (λ (m : ℕ). n * m) (sym halves) in
-        let v : n * (g / 2) + 64 * (g % 2) + k % 64 ≡ in_record n k = omega (arith, u, in_half) in
-        omega (arith, add-mul (n * (g / 2) + 64 * (g % 2)) (k % 64) (n + 1), ap (λ (m : ℕ). m * (n + 1)) v)
-
-    same_letter : (j : ℕ) → column_of s (at + (n * (g / 2) + 64 * (g % 2)) * (n + 1)) n j (k % 64) ≡ column_of s at n j (in_record n k)
-    same_letter j = ap (λ (m : ℕ). letter_of (get_or s (m + (1 + j)) 0)) same_place
+        omega (arith, u, in_half)
 
   -- a bit that is set only where a row is
   chosen_bit : (f : Letter → Bool) → f I ≡ false → (b : Bool) (l : Letter) → (b && f l) ≡ f (cond b l I)
@@ -84,18 +74,18 @@ module _ (s : List ℕ) (at n : ℕ) where
   chosen_bit f e false l = sym e
 
   module _ (g count : ℕ) (w w' : List ℕ) (gl : g < 4) (nl : n ≤ most_qubits) (sh : Share n g count) (b : Begun g w)
-      (p : Placed s (at + (n * (g / 2) + 64 * (g % 2)) * (n + 1)) n count g w w') where
+      (p : Placed s n (n * (g / 2) + 64 * (g % 2)) count g w w') where
     here_letter : (k j : ℕ) → k / 64 ≡ g → j < n → letter_at w' k j ≡ wanted k j
     here_letter k j e l =
         ap₂ letter
-        (ap (λ (m : ℕ). bit (k % 64) (get_or w' (8 * j + m) 0)) e ∙ p.xs j l (k % 64) ∙ ap₂ (λ (c : Bool) (q : Letter). c && x q) (passes g count gl sh k e) (same_letter g count gl sh k e j) ∙ chosen_bit x refl (ltb (k % most_qubits) n) (column_of s at n j (in_record n k)))
-        (ap (λ (m : ℕ). bit (k % 64) (get_or w' (8 * j + 4 + m) 0)) e ∙ p.zs j l (k % 64) ∙ ap₂ (λ (c : Bool) (q : Letter). c && z q) (passes g count gl sh k e) (same_letter g count gl sh k e j) ∙ chosen_bit z refl (ltb (k % most_qubits) n) (column_of s at n j (in_record n k)))
+        (ap (λ (m : ℕ). bit (k % 64) (get_or w' (8 * j + m) 0)) e ∙ p.xs j l (k % 64) ∙ ap₂ (λ (c : Bool) (m : ℕ). c && x (column_of s n j m)) (passes g count gl sh k e) (same_row g count gl sh k e) ∙ chosen_bit x refl (ltb (k % most_qubits) n) (column_of s n j (in_record n k)))
+        (ap (λ (m : ℕ). bit (k % 64) (get_or w' (8 * j + 4 + m) 0)) e ∙ p.zs j l (k % 64) ∙ ap₂ (λ (c : Bool) (m : ℕ). c && z (column_of s n j m)) (passes g count gl sh k e) (same_row g count gl sh k e) ∙ chosen_bit z refl (ltb (k % most_qubits) n) (column_of s n j (in_record n k)))
         ∙ letter_bits (wanted k j)
 
     here_sign : (k : ℕ) → k / 64 ≡ g → bit_at w' sign_words k ≡ wanted_sign k
     here_sign k e =
         ap (λ (m : ℕ). bit (k % 64) (get_or w' (sign_words + m) 0)) e ∙ p.signs (k % 64)
-        ∙ ap₂ (λ (c : Bool) (m : ℕ). c && eqb (get_or s m 0) 45) (passes g count gl sh k e) (same_place g count gl sh k e)
+        ∙ ap₂ (λ (c : Bool) (m : ℕ). c && sign_of s n m) (passes g count gl sh k e) (same_row g count gl sh k e)
 
     kept_letter : (k j : ℕ) → k / 64 < g → letter_at w' k j ≡ letter_at w k j
     kept_letter k j h = ap₂ letter (ap (bit (k % 64)) (p.beside (8 * j + k / 64) (λ e. omega arith))) (ap (bit (k % 64)) (p.beside (8 * j + 4 + k / 64) (λ e. omega arith)))
@@ -145,13 +135,13 @@ module _ (s : List ℕ) (at n : ℕ) where
         in_letters k j h l (yes m) = b.letters k j m l
         in_letters k j h l (no m) =
             let e : k / 64 ≡ g = omega arith in
-            no_letter k j (omega arith) (omega arith) (omega arith) ∙ sym (ap (λ (c : Bool). cond c (column_of s at n j (in_record n k)) I) (none k e))
+            no_letter k j (omega arith) (omega arith) (omega arith) ∙ sym (ap (λ (c : Bool). cond c (column_of s n j (in_record n k)) I) (none k e))
 
         in_signs : (k : ℕ) → k / 64 < g + 1 → Dec (k / 64 < g) → bit_at w sign_words k ≡ wanted_sign k
         in_signs k h (yes m) = b.signs k m
         in_signs k h (no m) =
             let e : k / 64 ≡ g = omega arith in
-            no_sign k (omega arith) (omega arith) ∙ sym (ap (λ (c : Bool). c && eqb (get_or s (at + in_record n k * (n + 1)) 0) 45) (none k e))
+            no_sign k (omega arith) (omega arith) ∙ sym (ap (λ (c : Bool). c && sign_of s n (in_record n k)) (none k e))
 
   -- ---- all of them
 
@@ -176,49 +166,21 @@ module _ (s : List ℕ) (at n : ℕ) where
     }
 
     module _ (k : ℕ) (h : k < row_count) (m : k % most_qubits < n) where
-      abbrev from : ℕ
-      from = at + in_record n k * (n + 1)
+      abbrev text : List ℕ
+      text = text_of s n (in_record n k)
 
-      text : List ℕ
-      text = take (n + 1) (drop from s)
-
-      text_at : (j : ℕ) → j < n + 1 → get_or text j 0 ≡ get_or s (from + j) 0
-      unfolding text
-      text_at j l = get_or-take (n + 1) (drop from s) j 0 l ∙ get_or-drop from s j 0
-
-      minus : bit_at w sign_words k ≡ eqb (get_or text 0 0) 45
-      minus =
-          let e : from + 0 ≡ from = omega arith in
-          signs_in k h ∙ ap (λ (c : Bool). c && eqb (get_or s from 0) 45) (lt-ltb (k % most_qubits) n m) ∙ sym (ap (λ (c : ℕ). eqb c 45) (text_at 0 (omega arith) ∙ ap (λ (c : ℕ). get_or s c 0) e))
-
-      later : (j : ℕ) → from + (1 + j) ≡ from + suc j
-      later j = omega arith
+      minus : bit_at w sign_words k ≡ (spelled text).minus
+      minus = signs_in k h ∙ ap (λ (c : Bool). c && sign_of s n (in_record n k)) (lt-ltb (k % most_qubits) n m)
 
       in_text : (j : ℕ) → cond (ltb j n) (letter_at w k j) I ≡ letter_of (get_or text (suc j) 0)
-      unfolding text
       in_text j =
           guarded n (letter_at w k) j (letter_of (get_or text (suc j) 0))
-          (λ l. letters_in k j h l ∙ ap (λ (c : Bool). cond c (column_of s at n j (in_record n k)) I) (lt-ltb (k % most_qubits) n m)
-          ∙ ap letter_of (ap (λ (c : ℕ). get_or s c 0) (later j) ∙ sym (text_at (suc j) (omega arith))))
-          (λ l. ap letter_of (get_or-eq_default text 0 (omega (arith, length-take (n + 1) (drop from s)))))
+          (λ l. letters_in k j h l ∙ ap (λ (c : Bool). cond c (column_of s n j (in_record n k)) I) (lt-ltb (k % most_qubits) n m))
+          (λ l. ap letter_of (get_or-eq_default text 0 (omega (arith, length-take (n + 1) (drop (in_record n k * (n + 1)) s)))))
 
       row : row_at n w k ≡ spelled text
       unfolding row_at
       row = λ i. record { minus = minus i; letters = λ j. in_text j i }
 
-    pub loaded : Loaded s at n w
-    unfolding text
+    pub loaded : Loaded s n w
     loaded = record { rows = row; only = only }
-
--- the rows of word g, as the code counts them
-pub share_none : (n g : ℕ) → n ≤ 64 * (g % 2) → Share n g 0
-share_none n g h = record { most = omega arith; within = λ q. absurd (omega arith); rows = λ k l. le-ltb k 0 (omega arith) ∙ sym (le-ltb (64 * (g % 2) + k) n (omega arith)) }
-
-pub share_some : (n g count : ℕ) → 64 * (g % 2) + count ≤ n → count ≤ 64 → (count < 64 → n ≤ 64 * (g % 2) + count) → Share n g count
-share_some n g count h m a = record { most = m; within = λ q. h; rows = λ k l. go k l (dec_lt k count) }
-  where
-    go : (k : ℕ) → k < 64 → Dec (k < count) → ltb k count ≡ ltb (64 * (g % 2) + k) n
-    go k l (yes q) = lt-ltb k count q ∙ sym (lt-ltb (64 * (g % 2) + k) n (omega arith))
-    go k l (no q) =
-        let u : n ≤ 64 * (g % 2) + count = a (omega arith) in
-        le-ltb k count (omega arith) ∙ sym (le-ltb (64 * (g % 2) + k) n (omega arith))

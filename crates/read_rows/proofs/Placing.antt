@@ -5,25 +5,24 @@ use mathlib.Core.Logic.{◌≢◌}
 use Prim.Native.Nat.{ℕ, ◌+◌, ◌*◌, ◌%◌, ◌≤◌, ◌<◌}
 use native.Mathlib.Decide.{dec_lt}
 use native.Mathlib.Omega.{arith}
-use lib.Dec.{eqb}
 use lib.ListN.{get_or, set, length-set}
 use lib.Seq.{get_or-set_same, get_or-set_other}
 use Rattle.limits.specs.Limits.{most_qubits}
 use Rattle.pauli.specs.Letters.{x, z}
 use Rattle.packing.specs.View.{sign_words, Words}
 use Rattle.words.specs.Bit.{bit}
-use Rattle.read_rows.specs.Parts.Loading.{column_of, Built, Placed}
+use Rattle.read_rows.specs.Parts.Loading.{column_of, sign_of, Built, Placed}
 
 -- the words of the first j qubits are stored, and all others are as they were
-pub record Filled (s : List ℕ) (at n count g : ℕ) (old new : List ℕ) (j : ℕ) : Type 0 where
+pub record Filled (s : List ℕ) (n first count g : ℕ) (old new : List ℕ) (j : ℕ) : Type 0 where
   pub words : Words new
-  pub xs : (k : ℕ) → k < j → Built (λ i. x (column_of s at n k i)) count (get_or new (8 * k + g) 0)
-  pub zs : (k : ℕ) → k < j → Built (λ i. z (column_of s at n k i)) count (get_or new (8 * k + 4 + g) 0)
+  pub xs : (k : ℕ) → k < j → Built (λ i. x (column_of s n k (first + i))) count (get_or new (8 * k + g) 0)
+  pub zs : (k : ℕ) → k < j → Built (λ i. z (column_of s n k (first + i))) count (get_or new (8 * k + 4 + g) 0)
   pub beside : (k : ℕ) → k % 4 ≢ g → get_or new k 0 ≡ get_or old k 0
   pub behind : (k : ℕ) → 8 * j ≤ k → get_or new k 0 ≡ get_or old k 0
 
-pub filled_none : (s : List ℕ) (at n count g : ℕ) (w : List ℕ) → Words w → Filled s at n count g w w 0
-filled_none s at n count g w l = record {
+pub filled_none : (s : List ℕ) (n first count g : ℕ) (w : List ℕ) → Words w → Filled s n first count g w w 0
+filled_none s n first count g w l = record {
   words = l;
   xs = λ k h. absurd (omega arith);
   zs = λ k h. absurd (omega arith);
@@ -32,8 +31,8 @@ filled_none s at n count g w l = record {
 }
 
 -- the words of one qubit more
-module _ (s : List ℕ) (at n count g : ℕ) (old w : List ℕ) (j u v : ℕ) (gl : g < 4) (jl : j < most_qubits) (f : Filled s at n count g old w j)
-    (a : Built (λ i. x (column_of s at n j i)) count u) (b : Built (λ i. z (column_of s at n j i)) count v) where
+module _ (s : List ℕ) (n first count g : ℕ) (old w : List ℕ) (j u v : ℕ) (gl : g < 4) (jl : j < most_qubits) (f : Filled s n first count g old w j)
+    (a : Built (λ i. x (column_of s n j (first + i))) count u) (b : Built (λ i. z (column_of s n j (first + i))) count v) where
   abbrev half : List ℕ
   half = set w (8 * j + g) u
 
@@ -49,7 +48,7 @@ module _ (s : List ℕ) (at n count g : ℕ) (old w : List ℕ) (j u v : ℕ) (g
   other_kept : (k : ℕ) → k ≢ 8 * j + g → k ≢ 8 * j + 4 + g → get_or full k 0 ≡ get_or w k 0
   other_kept k p q = get_or-set_other half (8 * j + 4 + g) k v 0 q ∙ get_or-set_other w (8 * j + g) k u 0 p
 
-  pub filled_more : Filled s at n count g old full (j + 1)
+  pub filled_more : Filled s n first count g old full (j + 1)
   filled_more = record {
     words = length-set half (8 * j + 4 + g) v ∙ length-set w (8 * j + g) u ∙ f.words;
     xs = λ k l. in_x k l (dec_lt k j);
@@ -58,25 +57,25 @@ module _ (s : List ℕ) (at n count g : ℕ) (old w : List ℕ) (j u v : ℕ) (g
     behind = λ k h. other_kept k (λ e. omega arith) (λ e. omega arith) ∙ f.behind k (omega arith);
   }
     where
-      in_x : (k : ℕ) → k < j + 1 → Dec (k < j) → Built (λ i. x (column_of s at n k i)) count (get_or full (8 * k + g) 0)
+      in_x : (k : ℕ) → k < j + 1 → Dec (k < j) → Built (λ i. x (column_of s n k (first + i))) count (get_or full (8 * k + g) 0)
       in_x k l (yes m) = λ i. ap (bit i) (other_kept (8 * k + g) (λ e. omega arith) (λ e. omega arith)) ∙ f.xs k m i
       in_x k l (no m) =
           let e : k ≡ j = omega arith in
           rw e (λ i. ap (bit i) x_stored ∙ a i)
 
-      in_z : (k : ℕ) → k < j + 1 → Dec (k < j) → Built (λ i. z (column_of s at n k i)) count (get_or full (8 * k + 4 + g) 0)
+      in_z : (k : ℕ) → k < j + 1 → Dec (k < j) → Built (λ i. z (column_of s n k (first + i))) count (get_or full (8 * k + 4 + g) 0)
       in_z k l (yes m) = λ i. ap (bit i) (other_kept (8 * k + 4 + g) (λ e. omega arith) (λ e. omega arith)) ∙ f.zs k m i
       in_z k l (no m) =
           let e : k ≡ j = omega arith in
           rw e (λ i. ap (bit i) z_stored ∙ b i)
 
 -- and the signs
-module _ (s : List ℕ) (at n count g : ℕ) (old w : List ℕ) (v : ℕ) (gl : g < 4) (nl : n ≤ most_qubits) (f : Filled s at n count g old w n)
-    (a : Built (λ i. eqb (get_or s (at + i * (n + 1)) 0) 45) count v) where
+module _ (s : List ℕ) (n first count g : ℕ) (old w : List ℕ) (v : ℕ) (gl : g < 4) (nl : n ≤ most_qubits) (f : Filled s n first count g old w n)
+    (a : Built (λ i. sign_of s n (first + i)) count v) where
   kept : (k : ℕ) → k ≢ sign_words + g → get_or (set w (sign_words + g) v) k 0 ≡ get_or w k 0
   kept k h = get_or-set_other w (sign_words + g) k v 0 h
 
-  pub placed : Placed s at n count g old (set w (sign_words + g) v)
+  pub placed : Placed s n first count g old (set w (sign_words + g) v)
   placed = record {
     words = length-set w (sign_words + g) v ∙ f.words;
     xs = λ j l i. ap (bit i) (kept (8 * j + g) (λ e. omega arith)) ∙ f.xs j l i;

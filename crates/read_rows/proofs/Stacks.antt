@@ -1,10 +1,10 @@
--- Words with a bit for each row, built bit by bit, and the places of rows. Assumes nothing.
+-- Words with a bit for each row, built bit by bit. Assumes nothing.
 use mathlib.Core.Path.{◌≡◌, refl, ◌∙◌, ap, ap₂}
 use mathlib.Core.Bool.{Bool, true, false, ◌&&◌, and-true, and-false}
 use mathlib.Core.List.{[], ◌∷◌}
-use Prim.Native.Nat.{ℕ, zero, suc, ◌+◌, ◌*◌, ◌%◌, ◌^◌, ◌≤◌, ◌<◌}
+use Prim.Native.Nat.{ℕ, zero, suc, ◌+◌, ◌*◌, ◌%◌, ◌^◌, ◌<◌}
 use native.Mathlib.Decide.{dec_lt}
-use native.Mathlib.Nat.{add-mul, zero-mul, zero-mod, mul-le-mul_right}
+use native.Mathlib.Nat.{zero-mul, zero-mod}
 use native.Mathlib.Omega.{arith}
 use lib.Bits.{bit_xor}
 use lib.Dec.{eqb, ltb}
@@ -40,20 +40,12 @@ next_bit f k i = go (dec_lt k i) (dec_lt i k)
         let e : k ≡ i = omega arith in
         rw (e, le-ltb i i (omega arith), lt-ltb i (i + 1) (omega arith), eq-eqb i i refl) (and-true (f i))
 
-pub built_more : (f : ℕ → Bool) (i w : ℕ) (b : Bool) → i < 64 → Built f i w → b ≡ f i → Built f (i + 1) (bit_xor w ((bool_byte b * 2 ^ i) % 2 ^ 64))
-built_more f i w b h a e k = bit-xor k w _ ∙ ap₂ ◌⊕◌ (a k) (one_bit b k i h ∙ ap (λ (c : Bool). c && eqb k i) e) ∙ next_bit f k i
+pub built_more : (f : ℕ → Bool) (i w t : ℕ) (b : Bool) → i < 64 → Built f i w → t ≡ bool_byte b → b ≡ f i → Built f (i + 1) (bit_xor w ((t * 2 ^ i) % 2 ^ 64))
+built_more f i w t b h a u e k =
+    bit-xor k w _ ∙ ap₂ ◌⊕◌ (a k) (ap (λ (n : ℕ). bit k ((n * 2 ^ i) % 2 ^ 64)) u ∙ one_bit b k i h ∙ ap (λ (c : Bool). c && eqb k i) e) ∙ next_bit f k i
 
 -- bytes or words that are all zero
 pub zeros : (n k : ℕ) → get_or {A = ℕ} (replicate n 0) k 0 ≡ 0
 zeros zero k = refl
 zeros (suc n) zero = refl
 zeros (suc n) (suc k) = zeros n k
-
--- ---- places
-
--- row i lies within the rows, and a step further is the next row's
-pub place_inside : (at step count size i : ℕ) → at + count * step ≤ size → i < count → at + i * step + step ≤ size
-place_inside at step count size i a h = omega (arith, mul-le-mul_right step h, add-mul i 1 step)
-
-pub next_place : (at step i from : ℕ) → from ≡ at + i * step → from + step ≡ at + (i + 1) * step
-next_place at step i from e = omega (arith, add-mul i 1 step)

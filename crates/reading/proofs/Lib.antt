@@ -1,4 +1,4 @@
 pub mod Numbers
-pub mod WrongPairs
+pub mod Most
 pub mod Answers
 pub mod OneAnswer

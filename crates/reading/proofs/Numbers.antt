@@ -1,18 +1,20 @@
--- The numbers of a trailer, byte by byte, and the test of bytes that end in a record. Assumes nothing.
-use mathlib.Core.Path.{◌≡◌, sym, ◌∙◌, ap}
-use mathlib.Core.Bool.{true, false, ◌&&◌}
-use mathlib.Core.List.{List, ◌∷◌}
-use Prim.Native.Nat.{ℕ, suc, ◌+◌, ◌-◌, ◌*◌, ◌≤◌, ◌<◌}
+-- The numbers of a trailer, as the library reads them from its bytes, and the test of bytes that end in a record. Assumes nothing.
+use mathlib.Core.Path.{◌≡◌, refl, sym, ◌∙◌, ap}
+use mathlib.Core.Bool.{Bool, ◌&&◌, cond}
+use mathlib.Core.List.{List, [], ◌∷◌}
+use Prim.Native.Nat.{ℕ, suc, ◌+◌, ◌-◌, ◌≤◌}
 use native.Mathlib.Omega.{arith}
 use lib.Dec.{eqb, leb}
-use lib.ListN.{length, get_or, take, drop}
-use lib.Seq.{drop-cons, get_or-drop}
-use borrow.Author.Tests.{le-leb, lt-leb}
+use lib.ListN.{length, get_or, take, drop, length-drop}
+use lib.Seq.{drop-cons}
+use borrow.Author.Tests.{le-leb}
+use Rattle.std.specs.Int.{w16, w32, from_le_bytes}
+use Rattle.std.specs.Prelude.{Some, None}
 use Rattle.limits.specs.Limits.{most_operations, most_qubits}
-use Rattle.records.proofs.Lengths.{square_below}
-use Rattle.records.proofs.Ending.{ending}
 use Rattle.records.specs.Record.{to_rows}
-use Rattle.records.specs.Reading.{number_in, first_distance, second_distance, qubits_in, ends_in_record}
+use Rattle.records.specs.Reading.{number_in, first_distance, second_distance, qubits_in}
+use Rattle.records.proofs.Numbers.{in_two, in_four}
+use Rattle.reading.specs.Answer.{last_of}
 
 -- two bytes at the front of what is left
 from : (s : List ℕ) (at : ℕ) → at + 2 ≤ length s → drop at s ≡ get_or s at 0 ∷ get_or s (at + 1) 0 ∷ drop (at + 2) s
@@ -22,44 +24,32 @@ from s at h =
     drop-cons s at 0 (omega arith)
     ∙ ap (λ (l : List ℕ). get_or s at 0 ∷ l) (drop-cons s (suc at) 0 (omega arith) ∙ (λ i. get_or s (e i) 0 ∷ drop (f i) s))
 
-pub two_bytes : (s : List ℕ) (at : ℕ) → at + 2 ≤ length s → number_in (take 2 (drop at s)) ≡ get_or s at 0 + 256 * get_or s (at + 1) 0
-unfolding number_in
-two_bytes s at h = rw (from s at h) (omega arith)
+two : (s : List ℕ) (at : ℕ) → at + 2 ≤ length s → from_le_bytes w16 (get_or s at 0 ∷ get_or s (at + 1) 0 ∷ []) ≡ number_in (take 2 (drop at s))
+two s at h = in_two _ refl ∙ ap (λ (l : List ℕ). number_in (take 2 l)) (sym (from s at h))
 
-pub four_bytes : (s : List ℕ) (at : ℕ) → at + 4 ≤ length s → number_in (take 4 (drop at s)) ≡ number_in (take 2 (drop at s)) + 65536 * number_in (take 2 (drop (at + 2) s))
-unfolding number_in
-four_bytes s at h = rw (from s at (omega arith), from s (at + 2) (omega arith)) (omega arith)
+four : (s : List ℕ) (at : ℕ) → at + 4 ≤ length s → from_le_bytes w32 (get_or s at 0 ∷ get_or s (at + 1) 0 ∷ get_or s (at + 2) 0 ∷ get_or s (at + 2 + 1) 0 ∷ []) ≡ number_in (take 4 (drop at s))
+four s at h =
+    in_four _ refl ∙ ap (λ (l : List ℕ). number_in (take 4 l)) (sym (from s at (omega arith) ∙ ap (λ (l : List ℕ). get_or s at 0 ∷ get_or s (at + 1) 0 ∷ l) (from s (at + 2) (omega arith))))
 
--- what the code tests is whether the bytes end in a record
-pub ends_short : (s : List ℕ) → length s < 12 → false ≡ ends_in_record s
-ends_short s h = rw (lt-leb 12 (length s) h)
+-- what the code tests of the distances near and far and of n is whether the bytes end in a record
+module _ (s t : List ℕ) (long : 12 ≤ length s) (whole : t ≡ drop (length s - 12) s) (S : get_or t 10 0 ≡ 0x53) (R : get_or t 11 0 ≡ 0x52) (near far n : ℕ)
+    (first : near ≡ from_le_bytes w32 (get_or t 0 0 ∷ get_or t 1 0 ∷ get_or t 2 0 ∷ get_or t 3 0 ∷ []))
+    (second : far ≡ from_le_bytes w32 (get_or t 4 0 ∷ get_or t 5 0 ∷ get_or t 6 0 ∷ get_or t 7 0 ∷ []))
+    (qubits : n ≡ from_le_bytes w16 (get_or t 8 0 ∷ get_or t 9 0 ∷ [])) where
+  size : length t ≡ 12
+  size = ap length whole ∙ length-drop (length s - 12) s ∙ omega arith
 
-pub ends_tested : (s : List ℕ) (near far n : ℕ) → 12 ≤ length s → near ≡ first_distance s → far ≡ second_distance s → n ≡ qubits_in s
-    → (eqb (get_or s (length s - 12 + 10) 0) 0x53 && eqb (get_or s (length s - 12 + 11) 0) 0x52 && leb 1 n && leb n most_qubits && eqb near (12 + 2 * (n * (n + 1))) && leb near far && leb far (near + most_operations) && leb far (length s))
-    ≡ ends_in_record s
-ends_tested s near far n h a b c = rw (a, b, c, le-leb 12 (length s) h, get_or-drop (length s - 12) s 10 0, get_or-drop (length s - 12) s 11 0)
+  near_is : near ≡ first_distance s
+  near_is = first ∙ four t 0 (omega (arith, size)) ∙ ap (λ (l : List ℕ). number_in (take 4 l)) whole
 
--- what the numbers of a record that were read satisfy
-pub record Pointed (s : List ℕ) (n near far : ℕ) : Type 0 where
-  pub least : 1 ≤ n
-  pub most : n ≤ most_qubits
-  pub half : n * (n + 1) ≤ most_qubits * (most_qubits + 1)
-  pub rows : near ≡ 12 + 2 * (n * (n + 1))
-  pub order : near ≤ far
-  pub few : far ≤ near + most_operations
-  pub inside : far ≤ length s
+  far_is : far ≡ second_distance s
+  far_is = second ∙ four t 4 (omega (arith, size)) ∙ ap (λ (l : List ℕ). number_in (take 4 (drop 4 l))) whole
 
-pub pointed : (s : List ℕ) (n near far : ℕ) → ends_in_record s ≡ true → n ≡ qubits_in s → near ≡ first_distance s → far ≡ second_distance s → Pointed s n near far
-pointed s n near far e a b c =
-    let f = ending s e in
-    let l : 1 ≤ n = omega (arith, f.least) in
-    let m : n ≤ most_qubits = omega (arith, f.most) in
-    record {
-      least = l;
-      most = m;
-      half = square_below n m;
-      rows = b ∙ f.first ∙ ap to_rows (sym a);
-      order = omega (arith, f.above);
-      few = omega (arith, f.few);
-      inside = omega (arith, f.within);
-    }
+  n_is : n ≡ qubits_in s
+  n_is = qubits ∙ two t 8 (omega (arith, size)) ∙ ap (λ (l : List ℕ). number_in (take 2 (drop 8 l))) whole
+
+  abbrev tests : Bool
+  tests = leb 1 n && leb n most_qubits && eqb near (to_rows n) && leb near far && leb far (near + most_operations) && leb far (length s)
+
+  pub last_tested : last_of s ≡ cond tests (Some (record { start = length s - far; outcomes = far - near; qubits = n })) None
+  last_tested = rw (sym near_is, sym far_is, sym n_is, sym whole, S, R, le-leb 12 (length s) long)

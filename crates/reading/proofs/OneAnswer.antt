@@ -5,17 +5,19 @@ use Prim.Native.Nat.{ℕ, ◌-◌, ◌^◌, ◌≤◌, ◌<◌}
 use native.Mathlib.Omega.{arith}
 use lib.ListN.{length, get_or, take, drop, length-drop}
 use lib.Seq.{length-take-le}
-use Rattle.packing.specs.Parts.Changes.{four}
 use Rattle.limits.specs.Limits.{most_qubits}
-use Rattle.answers.specs.Verdict.{Verdict, accepted, refused}
+use Rattle.answers.specs.Verdict.{Verdict, accepted, refused, then}
 use Rattle.answers.proofs.Known.{one_refusal}
 use Rattle.packing.specs.View.{rows_of, Holds}
 use Rattle.packing.proofs.Determined.{determined}
 use Rattle.records.specs.Reading.{Read, read_of}
 use Rattle.reading.specs.declared.Last.{Last}
-use Rattle.reading.specs.declared.Last.TheVariants.{Record, Refused}
-use Rattle.reading.specs.Answer.{told_read, qubits_held, Besides, Reads, handed, Hands}
-use Rattle.reading.proofs.WrongPairs.{accepted_most}
+use Rattle.reading.specs.declared.Record.{Record}
+use Rattle.std.specs.Prelude.{Result, Ok, Err}
+use Rattle.answers.specs.declared.Refusal.{Refusal}
+use Rattle.answers.specs.Refusals.{told}
+use Rattle.reading.specs.Answer.{told_read, qubits_held, Besides, Reads, read_from, handed, Hands}
+use Rattle.reading.proofs.Most.{accepted_most}
 
 -- words of 64 bits, as those of an array are
 abbrev pub Of64Bits : List ℕ → Type 0
@@ -28,40 +30,41 @@ few_qubits s = go (read_of s) refl
     go (accepted r) e = accepted_most s r e
     go (refused number place) e = omega arith
 
-pub hands_one : (s part w four part' w' four' : List ℕ) → Of64Bits w → Of64Bits w' → Hands s part w four → Hands s part' w' four' → (part ≡ part') × (w ≡ w') × (four ≡ four')
-hands_one s part w four part' w' four' f f' a b = (
-  a.outcomes ∙ sym b.outcomes,
-  determined (handed (read_of s)).qubits (few_qubits s) w w' a.holds b.holds (a.rows ∙ sym b.rows) f f',
+-- what is handed out of the bytes: the outcomes, the record's length and n, or the same refusal
+pub hands_one : (s : List ℕ) (r r' : Result Record Refusal) (w w' : List ℕ) → Of64Bits w → Of64Bits w' → Hands s r w → Hands s r' w'
+    → (then (told r) (λ h. accepted (read_from w h)) ≡ then (told r') (λ h. accepted (read_from w' h))) × (w ≡ w')
+hands_one s r r' w w' f f' a b = (
   a.answer ∙ sym b.answer,
+  determined (handed (read_of s)).qubits (few_qubits s) w w' a.holds b.holds (a.rows ∙ sym b.rows) f f',
 )
 
 -- ---- answers by their cases
 
 -- n and the rows of the words are those that are handed out
-held : (s : List ℕ) (a : Last) (w : List ℕ) → Reads s a w → (qubits_held a ≡ (handed (read_of s)).qubits) × (rows_of (qubits_held a) w ≡ (handed (read_of s)).rows)
+held : (s : List ℕ) (a : Result Last Refusal) (w : List ℕ) → Reads s a w → (qubits_held a ≡ (handed (read_of s)).qubits) × (rows_of (qubits_held a) w ≡ (handed (read_of s)).rows)
 held s a w r = go a r.answer r.besides
   where
-    go : (f : Last) → told_read s w f ≡ read_of s → Besides s w f → (qubits_held f ≡ (handed (read_of s)).qubits) × (rows_of (qubits_held f) w ≡ (handed (read_of s)).rows)
-    go (Record from outcomes qubits) e b = (ap (λ v. (handed v).qubits) e, ap (λ v. (handed v).rows) e)
-    go (Refused why) e b = (ap (λ v. (handed v).qubits) e, b ∙ ap (λ v. (handed v).rows) e)
+    go : (f : Result Last Refusal) → told_read s w f ≡ read_of s → Besides s w f → (qubits_held f ≡ (handed (read_of s)).qubits) × (rows_of (qubits_held f) w ≡ (handed (read_of s)).rows)
+    go (Ok l) e b = (ap (λ v. (handed v).qubits) e, ap (λ v. (handed v).rows) e)
+    go (Err why) e b = (ap (λ v. (handed v).qubits) e, b ∙ ap (λ v. (handed v).rows) e)
 
 module _ (s v w : List ℕ) where
   never : {A : Type 0} (r : Read) (number place : ℕ) → accepted r ≡ refused number place → A
   never r number place e = let z : ◌≡◌ {A = ℕ} 0 1 = cc in absurd (omega arith)
 
-  one_found : (f g : Last) → told_read s v f ≡ told_read s w g → Besides s v f → Besides s w g → f ≡ g
-  one_found (Record from outcomes qubits) (Record from' outcomes' qubits') e a b =
-      let sizes : length s - from ≡ length s - from' = ap (λ u. (handed u).size) e in
-      let p : from ≡ from' = omega (arith, a.inside, b.inside) in
-      let lengths : length (take outcomes (drop from s)) ≡ length (take outcomes' (drop from' s)) = ap (λ u. length (handed u).marks) e in
-      let q : outcomes ≡ outcomes' =
-      sym (length-take-le outcomes (drop from s) (omega (arith, length-drop from s, a.inside))) ∙ lengths
-      ∙ length-take-le outcomes' (drop from' s) (omega (arith, length-drop from' s, b.inside)) in
-      let r : qubits ≡ qubits' = ap (λ u. (handed u).qubits) e in
-      λ i. Record (p i) (q i) (r i)
-  one_found (Record from outcomes qubits) (Refused why) e a b = never _ _ _ e
-  one_found (Refused why) (Record from outcomes qubits) e a b = never _ _ _ (sym e)
-  one_found (Refused why) (Refused why') e a b = ap Refused (one_refusal why why' (ap number_of e) (ap place_of e))
+  one_found : (f g : Result Last Refusal) → told_read s v f ≡ told_read s w g → Besides s v f → Besides s w g → f ≡ g
+  one_found (Ok l) (Ok m) e a b =
+      let sizes : length s - l.start ≡ length s - m.start = ap (λ u. (handed u).size) e in
+      let p : l.start ≡ m.start = omega (arith, a.inside, b.inside) in
+      let lengths : length (take l.outcomes (drop l.start s)) ≡ length (take m.outcomes (drop m.start s)) = ap (λ u. length (handed u).marks) e in
+      let q : l.outcomes ≡ m.outcomes =
+      sym (length-take-le l.outcomes (drop l.start s) (omega (arith, length-drop l.start s, a.inside))) ∙ lengths
+      ∙ length-take-le m.outcomes (drop m.start s) (omega (arith, length-drop m.start s, b.inside)) in
+      let r : l.qubits ≡ m.qubits = ap (λ u. (handed u).qubits) e in
+      λ i. Ok (record { start = p i; outcomes = q i; qubits = r i })
+  one_found (Ok l) (Err why) e a b = never _ _ _ e
+  one_found (Err why) (Ok l) e a b = never _ _ _ (sym e)
+  one_found (Err why) (Err why') e a b = ap Err (one_refusal why why' (ap number_of e) (ap place_of e))
     where
       number_of : Verdict Read → ℕ
       number_of (accepted r) = 0
@@ -71,7 +74,7 @@ module _ (s v w : List ℕ) where
       place_of (accepted r) = 0
       place_of (refused number place) = place
 
-pub reads_one : (s : List ℕ) (a b : Last) (v w : List ℕ) → Of64Bits v → Of64Bits w → Reads s a v → Reads s b w → (a ≡ b) × (v ≡ w)
+pub reads_one : (s : List ℕ) (a b : Result Last Refusal) (v w : List ℕ) → Of64Bits v → Of64Bits w → Reads s a v → Reads s b w → (a ≡ b) × (v ≡ w)
 reads_one s a b v w fv fw ra rb =
     let ha = held s a v ra in
     let hb = held s b w rb in

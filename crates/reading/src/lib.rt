@@ -1,82 +1,76 @@
 // The record reader: the last record of the bytes it is lent, its rows as packed words and the place of its outcomes, or refusal 9, 10 or 11.
 #![tactic(auto)]
 
-ghost use Rattle.packing.specs.View.{Words};
 ghost use Rattle.reading.specs.Answer.{Reads, Hands};
-ghost use Rattle.reading.specs.Parts.Refusing.{Refuses};
+ghost use Rattle.reading.specs.Parts.Finding.{Finds};
 
 mod trailer;
 
 use answers::Refusal;
 use packing::Words;
+use read_rows::RowTexts;
 
-#[derive(Drop)]
-pub enum Last {
-    Record {
-        start: usize,
-        outcomes: usize,
-        qubits: usize,
-    },
-    Refused(Refusal),
+// Where the last record of some bytes starts, and how many outcomes and qubits it has.
+#[derive(Clone, Copy, Debug, PartialEq, Eq)]
+pub struct Last {
+    pub start: usize,
+    pub outcomes: usize,
+    pub qubits: usize,
 }
 
-// A refusal, with the start rows of n = 1.
-fn refused(why: Refusal, words: &mut Words) -> Last
-    requires { Words words.old }
-    ensures { Refuses why result words.new }
+// The last record, with its rows in the words.
+fn find(bytes: &[u8], words: &mut Words) -> Result<Last, Refusal>
+    ensures { Finds bytes.now result words.new }
 {
-    start_rows::start_words(words, 1);
-    Last::Refused(why)
+    let last = trailer::last(bytes).ok_or(Refusal::NoRecord)?;
+    let first = last.start + last.outcomes;
+    let end = bytes.len() - trailer::SIZE;
+    let rows = RowTexts {
+        bytes: &bytes[first..end],
+        qubits: last.qubits,
+    };
+    if let Some(place) = read_rows::bytes::bad(&bytes[last.start..first], &rows) {
+        return Err(Refusal::BadByte(place));
+    }
+    read_rows::load::rows(&rows, words);
+    if let Some(row) = pairing::unpaired(&rows, words) {
+        return Err(Refusal::NotPaired(row));
+    }
+    Ok(last)
 }
 
-pub fn read(bytes: &[u8], words: &mut Words) -> Last
-    requires { Words words.old }
+// A refusal leaves the start rows of n = 1 in the words.
+pub fn read(bytes: &[u8], words: &mut Words) -> Result<Last, Refusal>
     ensures { Reads bytes.now result words.new }
 {
-    if !trailer::ends(bytes) {
-        return refused(Refusal::NoRecord, words);
+    let found = find(bytes, words);
+    if found.is_err() {
+        start_rows::start_words(words, 1);
     }
-    let n = trailer::qubits(bytes);
-    let near = trailer::first(bytes);
-    let far = trailer::second(bytes);
-    let start = bytes.len() - far;
-    let outcomes = far - near;
-    let bad = read_rows::bytes::bad(bytes, start, outcomes, n);
-    if bad < outcomes + 2 * (n * (n + 1)) {
-        return refused(Refusal::BadByte(bad), words);
-    }
-    let at = start + outcomes;
-    read_rows::load::rows(bytes, at, n, words);
-    let wrong = pairing::unpaired(bytes, at, n, words);
-    if wrong < n + n {
-        return refused(Refusal::NotPaired(wrong), words);
-    }
-    Last::Record {
-        start,
-        outcomes,
-        qubits: n,
-    }
+    found
 }
 
-// The same through what the caller lends: the outcomes as a part of its bytes, the rows in one array, and four numbers.
-pub fn read_record<'b>(bytes: &'b [u8], words: &mut Words, answer: &mut [u64; 4]) -> &'b [u8]
-    ensures { Hands bytes.now result.now words.new answer.new }
+// A record: its outcomes, as a part of the bytes, and how many bytes and qubits it has.
+#[derive(Clone, Copy, Debug, PartialEq, Eq)]
+pub struct Record<'b> {
+    pub outcomes: &'b [u8],
+    pub size: usize,
+    pub qubits: usize,
+}
+
+// The same, with the outcomes handed out.
+pub fn read_record<'b>(bytes: &'b [u8], words: &mut Words) -> Result<Record<'b>, Refusal>
+    ensures { Hands bytes.now result words.new }
 {
-    *words = [0u64; packing::WORDS];
-    let found = read(bytes, words);
-    match found {
-        Last::Record {
-            start,
-            outcomes,
-            qubits,
-        } => {
-            let end = start + outcomes;
-            *answer = [0, 0, (bytes.len() - start) as u64, qubits as u64];
-            &bytes[start..end]
-        }
-        Last::Refused(why) => {
-            *answer = [answers::number(why), answers::place(why) as u64, 0, 0];
-            &bytes[0..0]
-        }
-    }
+    let Last {
+        start,
+        outcomes,
+        qubits,
+    } = read(bytes, words)?;
+    let end = start + outcomes;
+    Ok(Record {
+        outcomes: &bytes[start..end],
+        size: bytes.len() - start,
+        qubits,
+    })
 }

@@ -1,67 +1,34 @@
-// The trailer: whether the lent bytes end in a record, and the numbers in its last twelve bytes, lowest byte first.
-ghost use Rattle.std.specs.Prelude.{◌≡◌, ◌+◌, ◌≤◌, ◌<◌, ◌^◌, length, take, drop};
-ghost use Rattle.records.specs.Reading.{number_in, first_distance, second_distance, qubits_in, ends_in_record};
+// The trailer: whether the lent bytes end in a record, and where it stands by the numbers in its last twelve bytes, lowest byte first.
+ghost use Rattle.std.specs.Prelude.{◌≡◌};
+ghost use Rattle.reading.specs.Answer.{last_of};
 
-// The number in the two bytes from `at` on.
-fn two(bytes: &[u8], at: usize) -> usize
-    requires { at + 2 ≤ length bytes.now }
-    ensures { (result ≡ number_in (take 2 (drop at bytes.now))) × (result < 2 ^ 16) }
-{
-    let low = bytes[at] as usize;
-    let high = bytes[at + 1] as usize;
-    low + 256 * high
-}
+use crate::Last;
 
-// The number in the four bytes from `at` on.
-fn four(bytes: &[u8], at: usize) -> usize
-    requires { at + 4 ≤ length bytes.now }
-    ensures { (result ≡ number_in (take 4 (drop at bytes.now))) × (result < 2 ^ 32) }
-{
-    let low = two(bytes, at);
-    let high = two(bytes, at + 2);
-    low + 65536 * high
-}
+pub const SIZE: usize = 12;
 
-// The distance from the record's end to its first row.
-pub fn first(bytes: &[u8]) -> usize
-    requires { 12 ≤ length bytes.now }
-    ensures { (result ≡ first_distance bytes.now) × (result < 2 ^ 32) }
+// The last record of the bytes, if they end in one.
+pub fn last(bytes: &[u8]) -> Option<Last>
+    ensures { result ≡ last_of bytes.now }
 {
-    four(bytes, bytes.len() - 12)
-}
-
-// The distance from the record's end to its start.
-pub fn second(bytes: &[u8]) -> usize
-    requires { 12 ≤ length bytes.now }
-    ensures { (result ≡ second_distance bytes.now) × (result < 2 ^ 32) }
-{
-    four(bytes, bytes.len() - 12 + 4)
-}
-
-pub fn qubits(bytes: &[u8]) -> usize
-    requires { 12 ≤ length bytes.now }
-    ensures { (result ≡ qubits_in bytes.now) × (result < 2 ^ 16) }
-{
-    two(bytes, bytes.len() - 12 + 8)
-}
-
-// The bytes end in a record.
-pub fn ends(bytes: &[u8]) -> bool
-    ensures { result ≡ ends_in_record bytes.now }
-{
-    if bytes.len() < 12 {
-        return false;
+    let &[r0, r1, r2, r3, s0, s1, s2, s3, n0, n1, b'S', b'R'] = bytes.last_chunk::<SIZE>()? else {
+        return None;
+    };
+    let to_rows = u32::from_le_bytes([r0, r1, r2, r3]) as usize;
+    let to_start = u32::from_le_bytes([s0, s1, s2, s3]) as usize;
+    let qubits = usize::from(u16::from_le_bytes([n0, n1]));
+    let outcomes = to_start.checked_sub(to_rows)?;
+    let start = bytes.len().checked_sub(to_start)?;
+    if 1 <= qubits
+        && qubits <= limits::MOST_QUBITS
+        && outcomes <= limits::MOST_OPERATIONS
+        && to_rows == SIZE + 2 * (qubits * (qubits + 1))
+    {
+        Some(Last {
+            start,
+            outcomes,
+            qubits,
+        })
+    } else {
+        None
     }
-    let at = bytes.len() - 12;
-    let near = first(bytes);
-    let far = second(bytes);
-    let n = qubits(bytes);
-    let marked = (bytes[at + 10] == 0x53) & (bytes[at + 11] == 0x52);
-    marked
-        & (1 <= n)
-        & (n <= limits::MOST_QUBITS)
-        & (near == 12 + 2 * (n * (n + 1)))
-        & (near <= far)
-        & (far <= near + limits::MOST_OPERATIONS)
-        & (far <= bytes.len())
 }

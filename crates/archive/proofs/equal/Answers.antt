@@ -1,27 +1,18 @@
--- `archive::equal` meets its contract. The invariant: the words of the groups passed are equal. Assumes nothing.
-use mathlib.Core.Path.{sym, ◌∙◌}
-use native.Mathlib.Omega.{arith}
-use borrow.Author.Rules.{rules}
-use Rattle.archive.proofs.Groups.{groups_more, differ, signs_decide}
+-- `archive::equal` meets its contract. Assumes nothing.
+use Rattle.std.proofs.Common.{refl, sym, ◌∙◌, ◌*◌, arith, rules, tests}
+use Rattle.std.proofs.lemmas.Iterator.{YieldsList-from_range}
+use Rattle.std.proofs.lemmas.Iterator.Search.{all_from_yields_List}
+use Rattle.archive.proofs.Groups.{group_equal, differ, signs_decide}
 use Rattle.archive.proofs.equal.Goals as goal
 
-pub loop-q-init : goal.loop-q-init
-loop-q-init c = (search rules, λ p l. absurd (omega arith))
+pub returns-then-all : goal.returns-then-all
+returns-then-all c =
+    let e = c.args in
+    let a = all_from_yields_List (group_equal e.v.now e.w.now) _ _ c.all.result c.all.ensures.ran (YieldsList-from_range 0 (2 * e.n) (2 * e.n) refl (omega arith)) (λ x b q k. search (rules, tests)) in
+    c.same_group.ensures ∙ signs_decide e.n e.v.now e.w.now c.requires.0 c.requires.1 c.requires.2 (sym a ∙ c.if-all.true)
 
-pub returns-then-not-same_group : goal.returns-then-not-same_group
-returns-then-not-same_group c =
-    let l = c in
-    let e = l in
-    differ e.args.n e.args.v.now e.args.w.now e.requires.0 e.requires.1 e.requires.2 l.loop-q.q c.loop-q-test.true (sym c.same_group.ensures ∙ c.if-not-same_group.true)
-
-pub loop-q-preserved : goal.loop-q-preserved
-loop-q-preserved c =
-    let l = c in
-    let e = l in
-    (search rules, groups_more e.args.v.now e.args.w.now l.loop-q.q l.loop-q.invariant.1 (sym c.same_group.ensures ∙ c.if-not-same_group.false))
-
-pub returns : goal.returns
-returns c =
-    let l = c in
-    let e = l in
-    c.same_group-2.ensures ∙ signs_decide e.args.n e.args.v.now e.args.w.now e.requires.0 e.requires.1 e.requires.2 l.loop-q.q c.loop-q-test.false l.loop-q.invariant.1
+pub returns-else-all : goal.returns-else-all
+returns-else-all c =
+    let e = c.args in
+    let a = all_from_yields_List (group_equal e.v.now e.w.now) _ _ c.all.result c.all.ensures.ran (YieldsList-from_range 0 (2 * e.n) (2 * e.n) refl (omega arith)) (λ x b q k. search (rules, tests)) in
+    c.if-all.false ∙ differ e.n e.v.now e.w.now c.requires.0 c.requires.1 c.requires.2 (sym a ∙ c.if-all.false)

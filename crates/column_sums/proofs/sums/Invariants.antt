@@ -1,9 +1,6 @@
-use Prim.Native.Nat.{◌-◌, ◌*◌, ◌≤◌}
+use Prim.Native.Nat.{◌*◌}
 use Rattle.column_sums.specs.Parts.Sums.{Sums}
 use Rattle.column_sums.proofs.sums.Given as goal
 
 abbrev pub invariant-loop-j : goal.invariant-loop-j
-invariant-loop-j l = (l.j ≤ l.half) × Sums l.w l.half (16 * l.j) l.t
-
-abbrev pub decreases-loop-j : goal.decreases-loop-j
-decreases-loop-j l = l.half - l.j
+invariant-loop-j l = Sums l.w l.half (16 * l.j) l.t

@@ -1,12 +1,9 @@
-use Rattle.read_rows.specs.Parts.Loading.{NoneWhere}
-use Rattle.pauli.specs.Texts.{fits_at}
-use lib.ListN.{get_or}
+use Prim.Native.Nat.{◌+◌}
 use mathlib.Core.Bool.{not}
-use Prim.Native.Nat.{◌+◌, ◌≤◌, ◌-◌}
+use lib.ListN.{get_or}
+use Rattle.pauli.specs.Texts.{fits_at}
+use Rattle.read_rows.specs.Parts.Loading.{NoneWhere}
 use Rattle.read_rows.proofs.bytes.all_in_row.Given as goal
 
-abbrev pub invariant-loop-k : goal.invariant-loop-k
-invariant-loop-k l = (1 ≤ l.k) × (l.k ≤ l.n + 1) × NoneWhere l.ok (λ i. not (fits_at i (get_or l.bytes (l.at + i) 0))) l.k
-
-abbrev pub decreases-loop-k : goal.decreases-loop-k
-decreases-loop-k l = l.n + 1 - l.k
+abbrev pub invariant-loop-b : goal.invariant-loop-b
+invariant-loop-b l = NoneWhere l.ok (λ k. not (fits_at k (get_or l.row k 0))) (l.b-index + 1)

@@ -1,40 +1,39 @@
--- `read_rows::bytes::bad` meets its contract: the outcomes, and the rows behind them. Assumes nothing.
-use Rattle.pauli.proofs.LetterLaws.{both}
-use Rattle.read_rows.proofs.Places.{look_all}
-use native.Mathlib.Omega.{arith}
-use Prim.Native.Nat.{◌*◌, ◌+◌, ◌≤◌}
-use Rattle.read_rows.proofs.Places.{in_front, in_back, mark_place, behind_place}
-use Rattle.limits.specs.Limits.{most_qubits}
-use Rattle.records.proofs.Lengths.{square_below}
+-- `read_rows::bytes::bad` meets its contract. Assumes nothing.
+use Rattle.std.proofs.Common.{rules, tests, not, ◌∙◌, length, arith}
+use Rattle.std.proofs.lemmas.Iterator.{YieldsList-from_slice}
+use Rattle.std.proofs.lemmas.Iterator.Search.{position_from_yields_List}
+use Rattle.answers.proofs.First.{lowest_below}
+use Rattle.records.specs.Reading.{is_mark}
+use Rattle.read_rows.proofs.Places.{bad_in_rows, mark_stops, rest_stops, nothing_stops, looked_at}
 use Rattle.read_rows.proofs.bytes.bad.Goals as goal
-use Rattle.read_rows.proofs.bytes.bad.Goals.{After-all_in_rows}
-
-half : (c : After-all_in_rows) → c.args.n * (c.args.n + 1) ≤ most_qubits * (most_qubits + 1)
-half c = square_below c.args.n {m = most_qubits} (omega arith)
-
-pub overflow_mul-result : goal.overflow_mul-result
-overflow_mul-result c = omega (arith, half (goal.at.overflow_mul-result c).After-all_in_rows)
-
-pub overflow_mul-result-then-all_marks-all_in_rows : goal.overflow_mul-result-then-all_marks-all_in_rows
-overflow_mul-result-then-all_marks-all_in_rows c = omega (arith, half (goal.at.overflow_mul-result-then-all_marks-all_in_rows c).After-all_in_rows)
-
-pub overflow_add-result-then-all_marks-all_in_rows : goal.overflow_add-result-then-all_marks-all_in_rows
-overflow_add-result-then-all_marks-all_in_rows c = omega (arith, half (goal.at.overflow_add-result-then-all_marks-all_in_rows c).After-all_in_rows)
 
 pub returns-then-all_marks-all_in_rows : goal.returns-then-all_marks-all_in_rows
 returns-then-all_marks-all_in_rows c =
-    let a = c in
-    let e = a.args in
-    let k = both _ _ c.if-all_marks-all_in_rows.true in
-    in_back _ _ _ e.count _ (mark_place e.bytes.now e.n e.start e.count) (behind_place e.bytes.now e.n e.start e.count) _ (look_all _ e.count (a.all_marks.ensures k.0)) (omega arith) _ (look_all _ _ (c.all_in_rows.ensures k.1))
+    let r = c.args.rows.now in
+    looked_at c.args.outcomes.now r.bytes.now r.qubits r.whole _ _ c.all_marks.ensures c.all_in_rows.ensures c.if-all_marks-all_in_rows.true
 
-pub returns-then-k-count : goal.returns-then-k-count
-returns-then-k-count c =
-    let e = c.args in
-    in_front _ _ _ e.count _ (mark_place e.bytes.now e.n e.start e.count) (behind_place e.bytes.now e.n e.start e.count) _ c.in_outcomes-k.ensures c.if-k-count.true
+pub returns-in-Some : goal.returns-in-Some
+returns-in-Some c =
+    let r = c.args.rows.now in
+    let s = c.args.outcomes.now in
+    let p = position_from_yields_List (λ b. not (is_mark b)) _ _ c.position.result c.position.ensures.ran (YieldsList-from_slice s cc) (λ x b q k. search (rules, tests)) in
+    mark_stops s r.bytes.now r.qubits r.whole _ p _ (search rules)
+
+pub returns-in_err-k : goal.returns-in_err-k
+returns-in_err-k c =
+    let r = c.args.rows.now in
+    let s = c.args.outcomes.now in
+    let p = position_from_yields_List (λ b. not (is_mark b)) _ _ c.position.result c.position.ensures.ran (YieldsList-from_slice s cc) (λ x b q k. search (rules, tests)) in
+    c.from_residual.ensures ∙ nothing_stops s r.bytes.now r.qubits r.whole _ p (search rules) (search rules)
+
+pub overflow_add-result : goal.overflow_add-result
+overflow_add-result c =
+    let r = c.args.rows.now in
+    omega (arith, lowest_below (bad_in_rows r.bytes.now r.qubits) (length r.bytes.now) c.in_ok-k.k (search rules), r.whole)
 
 pub returns : goal.returns
 returns c =
-    let b = c in
-    let e = b.args in
-    in_back _ _ _ e.count _ (mark_place e.bytes.now e.n e.start e.count) (behind_place e.bytes.now e.n e.start e.count) _ b.in_outcomes-k.ensures c.if-k-count.false _ c.in_rows.ensures
+    let r = c.args.rows.now in
+    let s = c.args.outcomes.now in
+    let p = position_from_yields_List (λ b. not (is_mark b)) _ _ c.position.result c.position.ensures.ran (YieldsList-from_slice s cc) (λ x b q k. search (rules, tests)) in
+    rest_stops s r.bytes.now r.qubits r.whole _ p (search rules) _ (search rules)

@@ -1,44 +1,30 @@
--- `read_rows::bytes::in_rows` meets its contract: the rows passed are listed. Assumes nothing.
-use Rattle.read_rows.proofs.Places.{row_inside, rows_stop, rows_more, rows_all}
-use native.Mathlib.Nat.{add-mul}
+-- `read_rows::bytes::in_rows` meets its contract: no byte of the rows passed stops the search. Assumes nothing.
+use Rattle.std.proofs.Common.{ap, ◌∙◌, sym, length}
+use Rattle.answers.specs.First.{lowest}
+use Rattle.answers.proofs.First.{lowest_none, none_passes, lowest_below}
+use Rattle.read_rows.proofs.Texts.{row_inside}
+use Rattle.read_rows.proofs.Places.{bad_in_row, bad_in_rows, row_more, row_stops, rows_end}
 use native.Mathlib.Omega.{arith}
-use borrow.Author.Count.{below_none}
-use Prim.Native.Nat.{◌+◌}
-use borrow.Author.Rules.{rules}
 use Rattle.read_rows.proofs.bytes.in_rows.Goals as goal
 
-pub loop-i-init : goal.loop-i-init
-loop-i-init c = (search rules, omega arith, below_none _)
+pub overflow_add-result-in-Some : goal.overflow_add-result-in-Some
+overflow_add-result-in-Some c =
+    let n = c.args.rows.now.qubits in
+    let k = lowest_below (bad_in_row c.row.result.now) (length c.row.result.now) c.in-Some.k c.in-Some.ensures in
+    omega (arith, row_inside n c.loop-i.i (omega arith), c.row.ensures.size)
 
-pub overflow_add-at : goal.overflow_add-at
-overflow_add-at c = omega (arith, row_inside c.args.n c.loop-i.i (omega arith))
-
-pub in_row-k-requires : goal.in_row-k-requires
-in_row-k-requires c = omega (arith, row_inside c.args.n c.loop-i.i (omega arith))
-
-pub overflow_add-result : goal.overflow_add-result
-overflow_add-result c = omega (arith, row_inside c.args.n c.loop-i.i (omega arith))
-
-pub returns-then-k-n : goal.returns-then-k-n
-returns-then-k-n c =
-    let l = c in
-    let e = l.args in
-    rows_stop e.bytes.now e.at e.n l.loop-i.i _ _ l.loop-i.invariant.1 l.loop-i.invariant.2 c.in_row-k.ensures (search rules) c.if-k-n.true
-
-pub overflow_add-row-in-loop-i : goal.overflow_add-row-in-loop-i
-overflow_add-row-in-loop-i c = omega (arith, row_inside c.args.n c.loop-i.i (omega arith))
+pub returns-in-Some : goal.returns-in-Some
+returns-in-Some c =
+    let r = c.args.rows.now in
+    row_stops r.bytes.now r.qubits c.loop-i.i c.row.result.now c.row.ensures.text c.loop-i.invariant _ (omega arith) r.whole (c.in-Some.ensures ∙ ap (lowest (bad_in_row c.row.result.now)) c.row.ensures.size)
 
 pub loop-i-preserved : goal.loop-i-preserved
 loop-i-preserved c =
-    let l = c in
-    let e = l.args in (
-      search rules,
-      omega (arith, add-mul l.loop-i.i 1 (e.n + 1)),
-      rows_more e.bytes.now e.at e.n l.loop-i.i _ _ l.loop-i.invariant.1 l.loop-i.invariant.2 c.in_row-k.ensures c.if-k-n.false,
-    )
+    let r = c.args.rows.now in
+    row_more r.bytes.now r.qubits c.loop-i.i c.row.result.now c.row.ensures.text c.loop-i.invariant
+    (λ j h. none_passes (bad_in_row c.row.result.now) (length c.row.result.now) (sym c.in_default.ensures) j (omega (arith, c.row.ensures.size)))
 
 pub returns : goal.returns
 returns c =
-    let l = c in
-    let e = l.args in
-    rows_all e.bytes.now e.at e.n l.loop-i.i _ l.loop-i.invariant.1 (search rules) l.loop-i.invariant.2
+    let r = c.args.rows.now in
+    sym (lowest_none (bad_in_rows r.bytes.now r.qubits) (length r.bytes.now) (λ k h. c.loop-i.invariant k (rows_end r.qubits c.loop-i.i k (omega arith) (omega (arith, r.whole)))))

@@ -1,48 +1,24 @@
 -- `read_rows::load::sliced` meets its contract: the rows passed are in the bytes. Assumes nothing.
-use Rattle.read_rows.proofs.Stacks.{place_inside, next_place}
-use Rattle.read_rows.proofs.Slices.{row_letter, sliced_none, sliced_more}
+use Rattle.std.proofs.Common.{refl, ap, ℕ, List, get_or, eqb, rules}
 use Rattle.pauli.specs.Letters.{x, z}
-use native.Mathlib.Omega.{arith}
-use mathlib.Core.Path.{◌≡◌, refl, ap}
-use Prim.Native.Nat.{◌+◌}
-use borrow.Author.Rules.{rules}
+use Rattle.pauli.specs.Texts.{letter_of}
+use Rattle.read_rows.proofs.Texts.{letter_count, letter_byte_at}
+use Rattle.read_rows.proofs.Stacks.{built_none, built_more}
+use Rattle.read_rows.proofs.Slices.{turned_count, sliced_none, sliced_more}
 use Rattle.read_rows.proofs.load.sliced.Goals as goal
 
 pub loop-i-init : goal.loop-i-init
-loop-i-init c = (search rules, omega arith, sliced_none _ _, sliced_none _ _)
-
-pub overflow_add-row : goal.overflow_add-row
-overflow_add-row c =
-    let l = c in
-    let e = l in
-    omega (arith, place_inside e.args.at (e.args.n + 1) e.args.count _ l.loop-i.i e.requires.2 (omega arith))
-
-pub slice-requires : goal.slice-requires
-slice-requires c =
-    let l = c in
-    let e = l in
-    (omega (arith, place_inside e.args.at (e.args.n + 1) e.args.count _ l.loop-i.i e.requires.2 (omega arith)), search rules, l.loop-i.invariant.2.bytes, l.loop-i.invariant.3.bytes)
-
-pub overflow_add-row-in-loop-i-2 : goal.overflow_add-row-in-loop-i-2
-overflow_add-row-in-loop-i-2 c =
-    let l = c in
-    let e = l in
-    omega (arith, place_inside e.args.at (e.args.n + 1) e.args.count _ l.loop-i.i e.requires.2 (omega arith))
+loop-i-init c = record { xs = sliced_none _ _; zs = sliced_none _ _; signs = built_none _ }
 
 pub loop-i-preserved : goal.loop-i-preserved
 loop-i-preserved c =
-    let l = c in
-    let e = l.args in (
-      search rules,
-      next_place e.at (e.n + 1) l.loop-i.i l.loop-i.row l.loop-i.invariant.1,
-      sliced_more _ _ e.n l.loop-i.i _ l.loop-i.xs _ (search rules) (search rules) l.loop-i.invariant.2 refl
-          (λ j h. ap x (row_letter e.bytes.now e.at e.n l.loop-i.i l.loop-i.row j l.loop-i.invariant.1)) c.slice.ensures.turned,
-      sliced_more _ _ e.n l.loop-i.i _ l.loop-i.zs _ (search rules) (search rules) l.loop-i.invariant.3 refl
-          (λ j h. ap z (row_letter e.bytes.now e.at e.n l.loop-i.i l.loop-i.row j l.loop-i.invariant.1)) c.slice.ensures.turned_2,
-    )
-
-pub returns : goal.returns
-returns c =
-    let l = c in
-    let i : l.loop-i.i ≡ l.args.count = omega arith in
-    (rw i at l.loop-i.invariant.2, rw i at l.loop-i.invariant.3)
+    let l = c.loop-i in
+    let n = c.args.rows.now.qubits in
+    let row = c.row-row in
+    let count = letter_count row.result.now _ n row.ensures.text row.ensures.size in
+    let at = letter_byte_at row.result.now _ n row.ensures.text row.ensures.size in
+    record {
+      xs = sliced_more _ _ n l.i _ l.p.x _ (search rules) (search rules) l.invariant.xs refl (λ j h. ap (λ (b : ℕ). x (letter_of b)) (at j h)) (turned_count count c.slice.ensures.turned);
+      zs = sliced_more _ _ n l.i _ l.p.z _ (search rules) (search rules) l.invariant.zs refl (λ j h. ap (λ (b : ℕ). z (letter_of b)) (at j h)) (turned_count count c.slice.ensures.turned_2);
+      signs = built_more _ l.i l.p.signs _ _ (search rules) l.invariant.signs c.from.ensures (ap (λ (s : List ℕ). eqb (get_or s 0 0) 45) row.ensures.text);
+    }

@@ -1,9 +1,8 @@
-use Rattle.read_rows.proofs.Slices.{Joined}
-use Prim.Native.Nat.{◌≤◌, ◌-◌}
+use mathlib.Core.Path.{◌≡◌}
+use Prim.Native.Nat.{ℕ, ◌<◌}
+use lib.ListN.{length, get_or}
+use Rattle.packing.specs.Planes.{byte_place}
 use Rattle.read_rows.proofs.load.word.Given as goal
 
 abbrev pub invariant-loop-r : goal.invariant-loop-r
-invariant-loop-r l = (l.r ≤ 8) × Joined l.plane l.j l.w l.r
-
-abbrev pub decreases-loop-r : goal.decreases-loop-r
-decreases-loop-r l = 8 - l.r
+invariant-loop-r l = (length l.bytes ≡ 8) × ((k : ℕ) → k < l.r → get_or l.bytes k 0 ≡ get_or l.plane (byte_place k l.j) 0)
