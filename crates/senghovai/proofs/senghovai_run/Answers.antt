@@ -1,5 +1,8 @@
-use Rattle.senghovai.proofs.Told.{ran}
+use Rattle.senghovai.proofs.Told.{ran, not_run}
 use Rattle.senghovai.proofs.senghovai_run.Goals as goal
 
-pub returns : goal.returns
-returns c = ran _ _ _ _ _ _ c.run-rest.ensures
+pub returns-in-Ok : goal.returns-in-Ok
+returns-in-Ok c = ran _ _ _ _ _ _ c.in-Ok.ensures
+
+pub returns-in-Err : goal.returns-in-Err
+returns-in-Err c = rw (c.number.ensures, c.place.ensures) (not_run _ _ _ _ _ _ c.in-Err.ensures)
