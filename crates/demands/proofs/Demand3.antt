@@ -19,7 +19,7 @@ use Rattle.records.specs.Reading.{is_mark}
 use Rattle.records.proofs.Outcomes.{mark_fits, mark_back}
 use Rattle.records.proofs.RowTexts.{sign_fits}
 use Rattle.run.proofs.Numbered.{run_numbered}
-use Rattle.run.specs.Run.{Sheet, run_of, answered, numbers, rest_of, buffer_after}
+use Rattle.run.specs.Run.{Sheet, run_of, ran_of, numbers, rest_of, buffer_after}
 use Rattle.demands.specs.Calls.{Call, told_numbers, number_told, size_told, measured_told, written}
 use Rattle.demands.specs.Alike.{sign_place, SameKind, RecordsAlike, Leaves, nothing, two_records, xor3, is_minus, byte_of_three, Fourth}
 use Rattle.demands.proofs.Bytes.{OutcomesAt, SignsAt, PlaceAlike, place_alike}
@@ -117,10 +117,10 @@ module _ (text : List ℕ) (a b c d : Sheet) (m : SheetsAlike text a b c d) wher
   sheets_fourth : (k : ℕ) → get_or d.bytes k 0 ≡ byte_of_three n a.tally.measured k (get_or a.bytes k 0) (get_or b.bytes k 0) (get_or c.bytes k 0)
   sheets_fourth k = fourth_byte n a.tally.measured k _ _ _ _ (places k)
 
-  numbers_b : numbers (answered (accepted b)) ≡ numbers (answered (accepted a))
+  numbers_b : numbers (ran_of (accepted b)) ≡ numbers (ran_of (accepted a))
   numbers_b = ap₂ (λ l t. 0 ∷ 0 ∷ l ∷ t.measured ∷ t.random ∷ t.taken ∷ []) lengths_b (ap (λ (s : Sheet). s.tally) m.b_is)
 
-  numbers_d : numbers (answered (accepted d)) ≡ numbers (answered (accepted a))
+  numbers_d : numbers (ran_of (accepted d)) ≡ numbers (ran_of (accepted a))
   numbers_d = ap₂ (λ l t. 0 ∷ 0 ∷ l ∷ t.measured ∷ t.random ∷ t.taken ∷ []) lengths_d (ap (λ (s : Sheet). s.tally) m.d_is)
 
 -- ---- calls
@@ -137,7 +137,7 @@ one_fate text (accepted_alike k) = (refl, refl)
 sheets_of : (text : List ℕ) {a b c d : Sheet} → RunsAlike text (accepted a) (accepted b) (accepted c) (accepted d) → SheetsAlike text a b c d
 sheets_of text (accepted_alike k) = k
 
-one_refusal : (text : List ℕ) {m p l q : ℕ} {r s : Verdict Sheet} → RunsAlike text (refused m p) (refused l q) r s → numbers (answered (refused l q)) ≡ numbers (answered (refused m p))
+one_refusal : (text : List ℕ) {m p l q : ℕ} {r s : Verdict Sheet} → RunsAlike text (refused m p) (refused l q) r s → numbers (ran_of (refused l q)) ≡ numbers (ran_of (refused m p))
 one_refusal text refused_alike = refl
 
 -- what the promise says of a call, where its run is known and its buffer as long as another
@@ -145,8 +145,8 @@ module _ (text : List ℕ) (p : Call text) (room : ℕ) (l : length p.old ≡ ro
   known : run_of text p.coins (length p.old) ≡ v
   known = ap (run_of text p.coins) l ∙ e
 
-  answer_known : told_numbers p ≡ numbers (answered v)
-  answer_known = ap numbers (p.keeps.answers ∙ ap answered known)
+  answer_known : told_numbers p ≡ numbers (ran_of v)
+  answer_known = ap numbers (p.keeps.answers ∙ ap ran_of known)
 
   rest_known : p.rest ≡ rest_of v p.coins
   rest_known = p.keeps.hands_back ∙ ap (λ w. rest_of w p.coins) known

@@ -26,7 +26,7 @@ use Rattle.records.proofs.Bytes.{mark_byte}
 use Rattle.records.proofs.Taken.{taken}
 use Rattle.records.proofs.Meant.{accepted_fixed_at}
 use Rattle.walking.proofs.Counting.{counted_both}
-use Rattle.run.specs.Run.{Sheet, sheet, run_of, answered, numbers}
+use Rattle.run.specs.Run.{Sheet, sheet, run_of, ran_of, numbers}
 use Rattle.run.proofs.ReadBack.{AcceptedRun, accepted_fits, run_accepts, reads_back}
 use Rattle.demands.specs.Calls.{Call, number_told, measured_told, written}
 use Rattle.demands.specs.Kinds.{Goes_on, StopsBefore, ZMade, KindMeans}
@@ -139,7 +139,7 @@ kinds_mean = kind
 -- the shorter text is accepted where the longer is, with the same coins and no less room
 pub shorter_accepted : (short long : List ℕ) (c : Circuit) (p : Call short) (q : Call long) → q.coins ≡ p.coins → length q.old ≤ length p.old → number_told q ≡ 0 → meaning short ≡ accepted c
     → (a : ℕ) → a < c.qubits → Goes_on short long a → number_told p ≡ 0
-shorter_accepted short long c p q lent room zq meant a h g = ap (λ (l : List ℕ). get_or l 0 0) (ap numbers (p.keeps.answers ∙ ap answered accepts))
+shorter_accepted short long c p q lent room zq meant a h g = ap (λ (l : List ℕ). get_or l 0 0) (ap numbers (p.keeps.answers ∙ ap ran_of accepts))
   where
     B : AcceptedRun long q.coins (call long q zq).sheet
     B = ran long q zq

@@ -20,7 +20,7 @@ use Rattle.records.proofs.Written.{outcomes_written}
 use Rattle.tally.specs.declared.Tally.{Tally}
 use Rattle.tally.specs.Tally.{one_if, randoms, tally_of}
 use Rattle.tally.proofs.Tallies.{tally_tied}
-use Rattle.run.specs.Run.{Sheet, sheet, run_of, answered, numbers, rest_of, buffer_after, Runs}
+use Rattle.run.specs.Run.{Sheet, sheet, run_of, ran_of, numbers, rest_of, buffer_after, Runs}
 use Rattle.run.proofs.ReadBack.{AcceptedRun, accepted_run, held}
 use Rattle.run.proofs.Numbered.{run_numbered}
 use Rattle.demands.specs.Calls.{Call, told_numbers, number_told, written, how_many, Tallied}
@@ -33,7 +33,7 @@ run_one text coins old a b r s v w p q = (one_answer a b (p.answers ∙ sym q.an
 pub record AcceptedCall {text : List ℕ} (p : Call text) : Type 0 where
   pub sheet : Sheet
   pub is : run_of text p.coins (length p.old) ≡ accepted sheet
-  pub answer : told_numbers p ≡ numbers (answered (accepted sheet))
+  pub answer : told_numbers p ≡ numbers (ran_of (accepted sheet))
   pub rest : p.rest ≡ drop sheet.tally.taken p.coins
   pub new : p.new ≡ over sheet.bytes p.old
 
@@ -45,11 +45,11 @@ accepted_call text p z = go (run_of text p.coins (length p.old)) refl (run_numbe
     go (accepted s) e h = record {
       sheet = s;
       is = e;
-      answer = ap numbers (p.keeps.answers ∙ ap answered e);
+      answer = ap numbers (p.keeps.answers ∙ ap ran_of e);
       rest = p.keeps.hands_back ∙ ap (λ v. rest_of v p.coins) e;
       new = p.keeps.buffer ∙ ap (λ v. buffer_after v p.old) e;
     }
-    go (refused number place) e h = absurd (let q : number_told p ≡ number = ap (λ l. get_or l 0 0) (ap numbers (p.keeps.answers ∙ ap answered e)) in omega (arith, q, z, h))
+    go (refused number place) e h = absurd (let q : number_told p ≡ number = ap (λ l. get_or l 0 0) (ap numbers (p.keeps.answers ∙ ap ran_of e)) in omega (arith, q, z, h))
 
 -- its record stands at the buffer's front
 pub written_is : (text : List ℕ) (p : Call text) (a : AcceptedCall p) → written p ≡ a.sheet.bytes
@@ -79,8 +79,8 @@ module _ (text : List ℕ) (p : Call text) (z : number_told p ≡ 0) where
       ap outcome_part (written_is text p call ∙ ap (λ (s : Sheet). s.bytes) ran.is)
       ∙ outcomes_written ran.circuit.qubits (map mark outcomes) ran.state.rows (held text p.coins call.sheet ran) []
 
-  pub told : (k : ℕ) → get_or (told_numbers p) k 0 ≡ get_or (numbers (answered (accepted (sheet ran.circuit.qubits p.coins ran.state)))) k 0
-  told k = ap (λ l. get_or l k 0) (call.answer ∙ ap (λ s. numbers (answered (accepted s))) ran.is)
+  pub told : (k : ℕ) → get_or (told_numbers p) k 0 ≡ get_or (numbers (ran_of (accepted (sheet ran.circuit.qubits p.coins ran.state)))) k 0
+  told k = ap (λ l. get_or l k 0) (call.answer ∙ ap (λ s. numbers (ran_of (accepted s))) ran.is)
 
   -- the tally of an accepted call
   pub tallied : Tallied p

@@ -24,7 +24,7 @@ use Rattle.limits.specs.Limits.{most_operations}
 use Rattle.records.specs.Record.{longest_record, mark, rows_text, trailer, record_with, record_of, record_length}
 use Rattle.records.proofs.Lengths.{record_within}
 use Rattle.run.specs.declared.Ran.{Ran}
-use Rattle.run.specs.Run.{Sheet, sheet, run_circuit, run_of, answered, buffer_after, Runs}
+use Rattle.run.specs.Run.{Sheet, sheet, run_circuit, run_of, ran_of, buffer_after, Runs}
 use Rattle.walking.specs.Parts.Walk.{lines_of, or_none}
 use Rattle.walking.proofs.Counting.{run_count, measured_few}
 use Rattle.print_lines.specs.Line.{refusal_line}
@@ -161,9 +161,9 @@ module _ (text coins old rest new : List ℕ) (room : longest_record ≤ length 
   }
     where
       go : (v : Verdict Sheet) → run_of text coins (length old) ≡ v → run_of text coins (length old) ≡ refused (number_of r) (place_of r)
-      go (accepted s) q = absurd (not_accepted (number_of r) (place_of r) (record { size = length s.bytes; tally = s.tally }) (w.answers ∙ ap answered q))
+      go (accepted s) q = absurd (not_accepted (number_of r) (place_of r) (record { size = length s.bytes; tally = s.tally }) (w.answers ∙ ap ran_of q))
       go (refused a p) q =
-          let u : ◌≡◌ {A = Verdict Ran} (refused (number_of r) (place_of r)) (refused a p) = w.answers ∙ ap answered q in
+          let u : ◌≡◌ {A = Verdict Ran} (refused (number_of r) (place_of r)) (refused a p) = w.answers ∙ ap ran_of q in
           let x : a ≡ number_of r = cc in
           let y : p ≡ place_of r = cc in
           q ∙ (λ i. refused (x i) (y i))

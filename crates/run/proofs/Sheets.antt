@@ -24,7 +24,7 @@ use Rattle.std.specs.Prelude.{Ok, Err}
 use Rattle.answers.specs.declared.Refusal.{Refusal}
 use Rattle.answers.specs.Refusals.{number_of, place_of}
 use Rattle.run.specs.declared.Ran.{Ran}
-use Rattle.run.specs.Run.{Sheet, sheet, run_circuit, run_of, answered, rest_of, buffer_after, Runs}
+use Rattle.run.specs.Run.{Sheet, sheet, run_circuit, run_of, ran_of, rest_of, buffer_after, Runs}
 use Rattle.walking.specs.Parts.Walk.{lines_of, or_none, Ended, Stuck}
 use Rattle.run.specs.Parts.Ran.{judgement, Sheeted}
 use Rattle.walking.proofs.Counting.{run_count, measured_few}
@@ -180,14 +180,14 @@ the_ran k u = record { size = k; tally = u }
 
 pub ran_sheet : (text coins old : List ℕ) (a : Ran) (rest new : List ℕ) → Sheeted text coins old a.size a.tally new → rest ≡ drop a.tally.taken coins → Runs text coins old (Ok a) rest new
 ran_sheet text coins old a rest new r e = record {
-  answers = ap₂ (λ (k : ℕ) (u : Tally). accepted (the_ran k u)) r.size_is r.tally_is ∙ sym (ap answered r.is);
+  answers = ap₂ (λ (k : ℕ) (u : Tally). accepted (the_ran k u)) r.size_is r.tally_is ∙ sym (ap ran_of r.is);
   hands_back = e ∙ ap (λ (u : Tally). drop u.taken coins) r.tally_is ∙ sym (ap (λ (v : Verdict Sheet). rest_of v coins) r.is);
   buffer = r.buffer ∙ sym (ap (λ (v : Verdict Sheet). buffer_after v old) r.is);
 }
 
 pub ran_refused : (text coins old : List ℕ) (r : Refusal) (new : List ℕ) → run_of text coins (length old) ≡ refused (number_of r) (place_of r) → new ≡ old → Runs text coins old (Err r) coins new
 ran_refused text coins old r new e b = record {
-  answers = sym (ap answered e);
+  answers = sym (ap ran_of e);
   hands_back = sym (ap (λ (v : Verdict Sheet). rest_of v coins) e);
   buffer = b ∙ sym (ap (λ (v : Verdict Sheet). buffer_after v old) e);
 }

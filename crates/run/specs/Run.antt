@@ -29,8 +29,8 @@ run_of text coins room =
     then (meaning text) (λ c. unless (leb (record_length c.qubits (count_measured c.ops)) room) 8 0 (run_circuit c coins))
 
 -- what is answered of a sheet: the record's length, and the tally
-abbrev pub answered : Verdict Sheet → Verdict Ran
-answered v = then v (λ s. accepted (record { size = length s.bytes; tally = s.tally }))
+abbrev pub ran_of : Verdict Sheet → Verdict Ran
+ran_of v = then v (λ s. accepted (record { size = length s.bytes; tally = s.tally }))
 
 -- the same in numbers: number, place, the record's length, and the three counters; where a number is answered, a refusal gives zero
 abbrev pub numbers : Verdict Ran → List ℕ
@@ -49,6 +49,6 @@ buffer_after (refused number place) old = old
 
 -- what a run promises of its answer, of the coins it hands back and of the lent buffer
 pub record Runs (text coins old : List ℕ) (answer : Result Ran Refusal) (rest new : List ℕ) : Type 0 where
-  pub answers : told answer ≡ answered (run_of text coins (length old))
+  pub answers : told answer ≡ ran_of (run_of text coins (length old))
   pub hands_back : rest ≡ rest_of (run_of text coins (length old)) coins
   pub buffer : new ≡ buffer_after (run_of text coins (length old)) old

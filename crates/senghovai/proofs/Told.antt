@@ -12,7 +12,7 @@ use Rattle.records.proofs.Again.{read_inside}
 use Rattle.reading.specs.declared.Record.{Record}
 use Rattle.reading.specs.Answer.{Hands, read_from}
 use Rattle.run.specs.declared.Ran.{Ran}
-use Rattle.run.specs.Run.{Sheet, run_of, answered, rest_of, Runs}
+use Rattle.run.specs.Run.{Sheet, run_of, ran_of, rest_of, Runs}
 use Rattle.senghovai.specs.Exports.{verdict_number, run_places, ExportsRun, write_places, ExportsWritten}
 
 -- bytes written
@@ -29,7 +29,7 @@ pub ran : (circuit coins old : List ℕ) (a : Ran) (rest new : List ℕ) → Run
     → ExportsRun circuit coins old 0 (0 ∷ a.size ∷ length rest ∷ a.tally.measured ∷ a.tally.random ∷ a.tally.taken ∷ []) new
 ran circuit coins old a rest new r = let t = go (run_of circuit coins (length old)) r.answers r.hands_back in record { number_is = t.0; answer_is = t.1; buffer = r.buffer }
   where
-    go : (v : Verdict Sheet) → accepted a ≡ answered v → rest ≡ rest_of v coins
+    go : (v : Verdict Sheet) → accepted a ≡ ran_of v → rest ≡ rest_of v coins
         → (0 ≡ verdict_number v) × ((0 ∷ a.size ∷ length rest ∷ a.tally.measured ∷ a.tally.random ∷ a.tally.taken ∷ []) ≡ run_places coins v)
     go (accepted s) e h =
         let z : a ≡ record { size = length s.bytes; tally = s.tally } = cc in
@@ -40,7 +40,7 @@ pub not_run : (circuit coins old : List ℕ) (q : Refusal) (rest new : List ℕ)
     → ExportsRun circuit coins old (number_of q) (place_of q ∷ 0 ∷ length rest ∷ 0 ∷ 0 ∷ 0 ∷ []) new
 not_run circuit coins old q rest new r = let t = go (run_of circuit coins (length old)) r.answers r.hands_back in record { number_is = t.0; answer_is = t.1; buffer = r.buffer }
   where
-    go : (v : Verdict Sheet) → refused (number_of q) (place_of q) ≡ answered v → rest ≡ rest_of v coins
+    go : (v : Verdict Sheet) → refused (number_of q) (place_of q) ≡ ran_of v → rest ≡ rest_of v coins
         → (number_of q ≡ verdict_number v) × ((place_of q ∷ 0 ∷ length rest ∷ 0 ∷ 0 ∷ 0 ∷ []) ≡ run_places coins v)
     go (accepted s) e h = absurd (let z : ◌≡◌ {A = ℕ} 0 1 = cc in omega arith)
     go (refused number place) e h =

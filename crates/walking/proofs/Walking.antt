@@ -22,7 +22,7 @@ use Rattle.tally.specs.Tally.{randoms}
 use Rattle.tally.specs.Parts.Stepping.{none_yet}
 use Rattle.walking.specs.declared.Stop.{Stop}
 use Rattle.walking.specs.declared.Stop.TheVariants.{NoCoin, Refused}
-use Rattle.walking.specs.Parts.Walk.{View, Goes, Stops, Stopped, HasRoom, lines_of, or_none, Ended, Stuck}
+use Rattle.walking.specs.Parts.Walk.{View, Goes, Stops, NotDone, HasRoom, lines_of, or_none, Ended, Stuck}
 use Rattle.tally.proofs.Tallies.{tally_tied, randoms_within}
 use Rattle.walking.proofs.Counting.{step_count}
 use Rattle.walking.proofs.Views.{view_begin}
@@ -119,7 +119,7 @@ module _ (text : List ℕ) (body n : ℕ) (coins : List ℕ) where
         let r = rest (lines_of n body text) a in
         absurd (g l w.room line r.more r.left_is)
 
-    pub walk_stopped : at < length text → (why : Stop) → Stopped text at n coins words marks t why → Stuck text body n coins line
+    pub walk_stopped : at < length text → (why : Stop) → NotDone text at n coins words marks t why → Stuck text body n coins line
     walk_stopped l NoCoin g = walk_dry l g
     walk_stopped l Refused g = walk_refused l g
 

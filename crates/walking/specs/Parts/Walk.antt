@@ -107,13 +107,13 @@ pub record Stops (text : List ℕ) (at n : ℕ) (coins words marks : List ℕ) (
   pub stops : (line : ℕ) (e : State) → View n coins e words marks t → step n line op e ≡ refused 7 line
 
 -- why it is not done: a coin is missing, or the line is refused
-abbrev pub Stopped : List ℕ → ℕ → ℕ → List ℕ → List ℕ → List ℕ → Tally → Stop → Type 0
-Stopped text at n coins words marks t NoCoin = Stops text at n coins words marks t
-Stopped text at n coins words marks t Refused = at < length text → (room line : ℕ) (ops : List Op) → operations n room line (drop at text) ≡ accepted ops → ⊥
+abbrev pub NotDone : List ℕ → ℕ → ℕ → List ℕ → List ℕ → List ℕ → Tally → Stop → Type 0
+NotDone text at n coins words marks t NoCoin = Stops text at n coins words marks t
+NotDone text at n coins words marks t Refused = at < length text → (room line : ℕ) (ops : List Op) → operations n room line (drop at text) ≡ accepted ops → ⊥
 
 abbrev pub StepAs : List ℕ → ℕ → List ℕ → Walk → Result ℕ Stop → Walk → Type 0
 StepAs text at coins w (Ok next) w' = (w'.rows.qubits ≡ w.rows.qubits) × Goes text at w.rows.qubits coins w.rows.words w.marks w.tally next w'.rows.words w'.marks w'.tally
-StepAs text at coins w (Err why) w' = Stopped text at w.rows.qubits coins w.rows.words w.marks w.tally why
+StepAs text at coins w (Err why) w' = NotDone text at w.rows.qubits coins w.rows.words w.marks w.tally why
 
 -- the counters have room for one more
 pub record HasRoom (coins : List ℕ) (t : Tally) : Type 0 where
