@@ -13,7 +13,7 @@ fn run<R: Files + Env + Print + Eprint + AllocGlobal>(rt: &R) -> Result<(), Quit
     let circuit = tool::circuit(rt)?;
     let coins = tool::coins(rt)?;
     let mut sheet = [0u8; limits::LONGEST_RECORD];
-    let mut answer = Err(Refusal::NoRecord);
+    let mut answer = Err(Refusal::NoRecord); // until the run answers
     let mut out = [0u8; limits::LONGEST_TEXT];
     match print::run_and_print(&circuit, &coins, &mut sheet, &mut answer, &mut out) {
         Ok(size) => {

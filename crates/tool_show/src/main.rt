@@ -1,28 +1,23 @@
 // Prints the last record of the archive that the first word names: its outcome characters on one line, then its rows, a line each; or the refusal.
 #![tactic(auto)]
 
-use reading::Record;
 use std::env::Env;
 use std::io;
 use std::rt::Files;
 use tool::Quit;
 
-// The record's rows stand between its outcomes and the 12 bytes at the end.
-fn print_rows(rt: &impl Print, bytes: &[u8], record: Record<'_>) -> io::Result<()> {
-    let start = bytes.len() - record.size + record.outcomes.len();
-    for row in bytes[start..bytes.len() - 12].chunks_exact(record.qubits + 1) {
-        tool::print_line(rt, row)?;
-    }
-    Ok(())
-}
-
+// The rows stand between the outcomes and the 12 bytes at the end.
 fn show<R: Files + Env + Print + Eprint + AllocGlobal>(rt: &R) -> Result<(), Quit> {
     let bytes = tool::tail(rt, 1)?;
     let mut words = [0u64; packing::WORDS];
     match library::read(&bytes, &mut words) {
         Ok(record) => {
             tool::print_line(rt, record.outcomes)?;
-            print_rows(rt, &bytes, record)?;
+            let start = bytes.len() - record.size + record.outcomes.len();
+            let end = bytes.len() - 12;
+            for row in bytes[start..end].chunks_exact(record.qubits + 1) {
+                tool::print_line(rt, row)?;
+            }
         }
         Err(r) => rt.println(r)?,
     }
