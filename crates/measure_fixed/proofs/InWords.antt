@@ -5,6 +5,7 @@ use mathlib.Core.Bool.{Bool, ◌&&◌}
 use mathlib.Core.List.{List, [], ◌∷◌}
 use Prim.Native.Nat.{ℕ, zero, suc, ◌+◌, ◌*◌, ◌/◌, ◌%◌, ◌<◌}
 use native.Mathlib.Omega.{arith}
+use borrow.Author.Count.{below_none, below_more}
 use lib.Bits.{bit_and, bit_xor}
 use lib.ListN.{get_or}
 use Rattle.limits.specs.Limits.{most_qubits}
@@ -66,12 +67,7 @@ has_rows w o = record {
 
 -- words that are the same one by one
 pub each_word : (P : ℕ → Type 0) → P 0 → P 1 → (r : ℕ) → r < most_qubits → P (r / 64)
-each_word P a b r l = go (r / 64) (omega arith)
-  where
-    go : (g : ℕ) → g < 2 → P g
-    go zero h = a
-    go (suc zero) h = b
-    go (suc (suc g)) h = absurd (omega arith)
+each_word P a b r l = below_more P 1 (below_more P 0 (below_none P) a) b (r / 64) (omega arith)
 
 pub has_same : {B : ℕ → Bool} {b : ℕ → ℕ} (c : ℕ → ℕ) → Has B b → b 0 ≡ c 0 → b 1 ≡ c 1 → Has B c
 has_same {B} {b} c p e f = record { row = λ r l. p.row r l ∙ ap (bit (r % 64)) (each_word (λ g. b g ≡ c g) e f r l) }

@@ -3,7 +3,7 @@ use mathlib.Core.Path.{◌≡◌, refl, sym, ap, ap₂, ◌∙◌}
 use mathlib.Core.Logic.{◌≢◌}
 use mathlib.Core.Bool.{Bool, true, false, cond, ◌&&◌, true≢false}
 use mathlib.Core.List.{List, [], ◌∷◌}
-use Prim.Native.Nat.{ℕ, zero, suc, ◌*◌, ◌/◌, ◌%◌, ◌≤◌, ◌<◌, ◌+◌}
+use Prim.Native.Nat.{ℕ, zero, suc, ◌-◌, ◌*◌, ◌/◌, ◌%◌, ◌≤◌, ◌<◌, ◌+◌}
 use native.Mathlib.Nat.{add-zero}
 use native.Mathlib.Decide.{dec_lt}
 use native.Mathlib.Omega.{arith}
@@ -122,8 +122,8 @@ module _ (n a : ℕ) (w : List ℕ) (h : Holds n w) (nl : n ≤ most_qubits) (an
       })) nl)
 
   -- the one row of word g, where the other word is 0
-  pub fixed_one : (g : ℕ) → g < 2 → ((t : ℕ) → t < 2 → (t ≡ g → ⊥) → both t ≡ 0) → (minus : Bool) → OnlyRow (both g) (get_or w (sign_words + (2 + g)) 0) minus → minus ≡ fixed_value n a (rows_of n w)
-  fixed_one g gl others minus o =
+  pub fixed_one : (g : ℕ) → g < 2 → both (1 - g) ≡ 0 → (minus : Bool) → OnlyRow (both g) (get_or w (sign_words + (2 + g)) 0) minus → minus ≡ fixed_value n a (rows_of n w)
+  fixed_one g gl other minus o =
       let f : (most_qubits + (64 * g + o.row)) % 64 ≡ o.row = omega (arith, o.below) in
       let t : (most_qubits + (64 * g + o.row)) / 64 ≡ 2 + g = omega (arith, o.below) in
       o.sign ∙ sym (ap₂ (λ (k i : ℕ). bit k (get_or w (sign_words + i) 0)) f t)
@@ -135,4 +135,5 @@ module _ (n a : ℕ) (w : List ℕ) (h : Holds n w) (nl : n ≤ most_qubits) (an
           same_number g o.row k o.below h (eqb (k % 64) o.row) refl ∙ sym (ap (λ (i : ℕ). bit (k % 64) (both i)) h ∙ o.alone (k % 64) (omega arith))
       go k b false c =
           let h : k / 64 ≢ g = eqb-false (k / 64) g c in
-          ne_eqb k (64 * g + o.row) (λ r. omega (arith, o.below)) ∙ sym (ap (bit (k % 64)) (others (k / 64) (omega arith) h) ∙ bit-zero (k % 64))
+          let i : k / 64 ≡ 1 - g = omega arith in
+          ne_eqb k (64 * g + o.row) (λ r. omega (arith, o.below)) ∙ sym (ap (bit (k % 64)) (ap both i ∙ other) ∙ bit-zero (k % 64))

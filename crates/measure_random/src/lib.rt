@@ -10,6 +10,7 @@ ghost use Rattle.groups.specs.Parts.Rows.{row_bit};
 ghost use Rattle.measure_random.specs.Parts.Settled.{Settled};
 
 use groups::Group;
+use multiply_rows::RowSets;
 use packing::{Packed, Words};
 use std::hint::select_unpredictable;
 
@@ -35,9 +36,9 @@ pub fn collapse(rows: &mut Packed, a: usize, p: usize, coin: bool)
     let w = &mut rows.words;
     let partner = Group::row(p);
     let own = Group::row(limits::MOST_QUBITS + p);
-    let keep = !(partner ^ own);
+    let kept = !(partner ^ own);
     let x = Group::load(w, 8 * a);
-    let mask = (x & keep) ^ partner;
-    multiply_rows::multiply(w, n, p / 64, p % 64, keep, mask);
+    let multiplied = (x & kept) ^ partner;
+    multiply_rows::multiply(w, n, p, RowSets { kept, multiplied });
     settle(w, a, own, coin);
 }

@@ -1,12 +1,13 @@
 -- The pass over the columns: what holds of the words after j of them, and of all rows after the last. Assumes nothing.
-use mathlib.Core.Path.{◌≡◌, refl, sym, ap, ap₂, ◌∙◌, subst}
+use mathlib.Core.Path.{◌≡◌, refl, sym, ap, ap₂, ◌∙◌}
 use mathlib.Core.Bool.{Bool, true, false, ◌&&◌, cond}
 use mathlib.Core.List.{List, [], ◌∷◌}
-use mathlib.Core.Logic.{◌≢◌, ⊎_elim}
+use mathlib.Core.Logic.{◌≢◌}
 use Prim.Native.Nat.{ℕ, ◌+◌, ◌*◌, ◌/◌, ◌%◌, ◌^◌, ◌≤◌, ◌<◌}
-use native.Mathlib.Nat.{eq-or-lt_of_le, le_of_suc-le-suc, mod-lt, zero-lt-suc}
+use native.Mathlib.Nat.{mod-lt, zero-lt-suc}
 use native.Mathlib.Numerals.{add-one}
 use native.Mathlib.Omega.{arith}
+use borrow.Author.Count.{below_more}
 use lib.Bits.{bit_and, bit_or}
 use lib.Dec.{eqb, ltb}
 use lib.ListN.{get_or}
@@ -63,16 +64,13 @@ module _ (p : ℕ) (m : ℕ → Bool) (q : Letters) (w₀ : List ℕ) (j : ℕ) 
       → Multiplying p m q w₀ (j + 1) w' hi' lo'
   multiply_column {f} {w'} hi' lo' c letters counts = record {
     words = c.words;
-    done = λ k s l sl. ⊎_elim (at_j k s sl) (before k s sl) (eq-or-lt_of_le (le_of_suc-le-suc (subst (λ (n : ℕ). k < n) (add-one j) l)));
+    done = λ k s l sl. below_more (λ (i : ℕ). letter_at w' s i ≡ cond (m s) (kept p w₀ s i · q i) (kept p w₀ s i)) j (λ i h. before i s sl h) (c.letters s sl ∙ letters s sl) k l;
     rest = λ k l. c.behind k (omega arith) ∙ a.rest k (omega arith);
     counts = λ s sl. counts s sl
         ∙ count_more (m s) (count s) (power (kept p w₀ s j) (q j)) (total j (kept p w₀ s) q) (a.counts s sl)
         ∙ ap (λ (n : ℕ). cond (m s) (total n (kept p w₀ s) q) i0) (sym (add-one j));
   }
     where
-      at_j : (k s : ℕ) → s < row_count → k ≡ j → letter_at w' s k ≡ cond (m s) (kept p w₀ s k · q k) (kept p w₀ s k)
-      at_j k s sl e = rw e (c.letters s sl ∙ letters s sl)
-
       before : (k s : ℕ) → s < row_count → k < j → letter_at w' s k ≡ cond (m s) (kept p w₀ s k · q k) (kept p w₀ s k)
       before k s sl l =
           ap₂ letter (ap (bit (s % 64)) (c.before (8 * k + s / 64) (omega arith))) (ap (bit (s % 64)) (c.before (8 * k + 4 + s / 64) (omega arith))) ∙ a.done k s l sl

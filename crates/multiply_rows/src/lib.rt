@@ -20,27 +20,26 @@ pub struct Powers {
     pub lo: Group,
 }
 
-// The letters of qubit j, of which those of `keep` are kept, times the letter whose bits are those of px and pz, where the mask is set. The counts grow by the powers.
-fn times(
-    w: &mut Words,
-    j: usize,
-    px: Group,
-    pz: Group,
-    keep: Group,
-    mask: Group,
-    counts: Powers,
-) -> Powers
+// The rows that are kept, and those of them that are multiplied; all others are cleared.
+#[derive(Clone, Copy)]
+pub struct RowSets {
+    pub kept: Group,
+    pub multiplied: Group,
+}
+
+// The letters of qubit j that are kept, times the letter whose bits are those of px and pz, where rows are multiplied. The counts grow by the powers.
+fn times(w: &mut Words, j: usize, px: Group, pz: Group, sets: RowSets, counts: Powers) -> Powers
     requires { j < most_qubits }
-    ensures { Timed j (row_bit px) (row_bit pz) (row_bit keep) (row_bit mask) counts result w.old w.new }
+    ensures { Timed j (row_bit px) (row_bit pz) (row_bit sets.kept) (row_bit sets.multiplied) counts result w.old w.new }
 {
     let xi = 8 * j;
     let zi = 8 * j + 4;
-    let x = Group::load(w, xi) & keep;
-    let z = Group::load(w, zi) & keep;
-    let nx = x ^ (px & mask);
-    let nz = z ^ (pz & mask);
+    let x = Group::load(w, xi) & sets.kept;
+    let z = Group::load(w, zi) & sets.kept;
+    let nx = x ^ (px & sets.multiplied);
+    let nz = z ^ (pz & sets.multiplied);
     let t = x & pz;
-    let odd = (t ^ (z & px)) & mask;
+    let odd = (t ^ (z & px)) & sets.multiplied;
     let carry = (counts.lo ^ (nx ^ nz)) ^ t;
     nx.store(w, xi);
     nz.store(w, zi);
@@ -59,21 +58,23 @@ fn erase(w: &mut Words, j: usize, g: usize, own: u64)
     w[8 * j + 4 + g] &= own;
 }
 
-// The signs of `keep`, turned under the mask where the count's high bit and `minus` differ.
-fn sign(w: &mut Words, hi: Group, minus: Group, keep: Group, mask: Group)
-    ensures { Changed sign_words (λ s. (bit_at w.old sign_words s && row_bit keep s) ⊕ (row_bit mask s && (row_bit hi s ⊕ row_bit minus s))) w.old w.new }
+// The signs that are kept, turned where rows are multiplied and the count's high bit and `minus` differ.
+fn sign(w: &mut Words, hi: Group, minus: Group, sets: RowSets)
+    ensures { Changed sign_words (λ s. (bit_at w.old sign_words s && row_bit sets.kept s) ⊕ (row_bit sets.multiplied s && (row_bit hi s ⊕ row_bit minus s))) w.old w.new }
 {
-    let kept = Group::load(w, packing::SIGNS) & keep;
-    let turned = mask & (hi ^ minus);
+    let kept = Group::load(w, packing::SIGNS) & sets.kept;
+    let turned = sets.multiplied & (hi ^ minus);
     (kept ^ turned).store(w, packing::SIGNS);
 }
 
-// Both rows of number p, which stand at bit q of the words g and 2 + g, are cleared, and then every row under the mask is multiplied by old stabilizer p. In a column where
-// that row has I nothing is multiplied, and its own word has nothing to clear.
-pub fn multiply(w: &mut Words, n: usize, g: usize, q: usize, keep: Group, mask: Group)
-    requires { (n ≤ most_qubits) × (g < 2) × (q < 64) × Keeps (64 * g + q) (row_bit keep) }
-    ensures { Multiplied n (64 * g + q) (row_bit mask) (row_at n w.old (most_qubits + (64 * g + q))) w.old w.new }
+// Both rows of number p, and these alone, are cleared, and then rows are multiplied by old stabilizer p. In a column where that row has I nothing is multiplied, and its own word
+// has nothing to clear.
+pub fn multiply(w: &mut Words, n: usize, p: usize, sets: RowSets)
+    requires { (n ≤ most_qubits) × (p < most_qubits) × Keeps p (row_bit sets.kept) }
+    ensures { Multiplied n p (row_bit sets.multiplied) (row_at n w.old (most_qubits + p)) w.old w.new }
 {
+    let g = p / 64;
+    let q = p % 64;
     let own = !(1u64 << q);
     let none = Group::all(0);
     let mut counts = Powers { hi: none, lo: none };
@@ -83,11 +84,11 @@ pub fn multiply(w: &mut Words, n: usize, g: usize, q: usize, keep: Group, mask: 
         if ((x | z) >> q) & 1 == 1 {
             let px = Group::all(words::splat(x, q));
             let pz = Group::all(words::splat(z, q));
-            counts = times(w, j, px, pz, keep, mask, counts);
+            counts = times(w, j, px, pz, sets, counts);
         } else {
             erase(w, j, g, own);
         }
     }
     let minus = Group::all(words::splat(w[packing::SIGNS + (2 + g)], q));
-    sign(w, counts.hi, minus, keep, mask);
+    sign(w, counts.hi, minus, sets);
 }

@@ -12,15 +12,14 @@ pub fn random_row(rows: &Packed, a: usize) -> Option<usize>
     requires { a < rows.now.qubits }
     ensures { result ≡ random_row rows.now.qubits a (rows_of rows.now.qubits rows.now.words) }
 {
-    let i = 8 * a;
-    let x = rows.words[i + 2];
-    let z = rows.words[i + 3];
-    let p = x.trailing_zeros() as usize;
-    let q = z.trailing_zeros() as usize;
+    let x = rows.words[8 * a + 2];
+    let z = rows.words[8 * a + 3];
+    let p = x.trailing_zeros();
+    let q = z.trailing_zeros();
     if p < 64 {
-        Some(p)
+        Some(p as usize)
     } else if q < 64 {
-        Some(64 + q)
+        Some(64 + q as usize)
     } else {
         None
     }

@@ -1,12 +1,12 @@
 -- The words of the start rows: in the x words of qubit k row k alone is set, and in its z words row 128 + k. Assumes nothing.
-use mathlib.Core.Path.{◌≡◌, refl, sym, ap, ap₂, ◌∙◌, subst}
+use mathlib.Core.Path.{◌≡◌, refl, sym, ap, ap₂, ◌∙◌}
 use mathlib.Core.Bool.{Bool, true, false, not, cond}
 use mathlib.Core.List.{List}
-use mathlib.Core.Logic.{◌≢◌, ⊎_elim}
+use mathlib.Core.Logic.{◌≢◌}
 use Prim.Native.Nat.{ℕ, ◌+◌, ◌*◌, ◌/◌, ◌%◌, ◌^◌, ◌≤◌, ◌<◌}
-use native.Mathlib.Nat.{eq-or-lt_of_le, le_of_suc-le-suc, mod-lt, zero-lt-suc}
-use native.Mathlib.Numerals.{add-one}
+use native.Mathlib.Nat.{mod-lt, zero-lt-suc}
 use native.Mathlib.Omega.{arith}
+use borrow.Author.Count.{below_more}
 use lib.Dec.{eqb, ltb}
 use lib.ListN.{get_or, set}
 use borrow.Author.Tests.{eqb-true, eqb-false, eq-eqb, ne_eqb, ltb-true, ltb-false, lt-ltb, le-ltb}
@@ -71,8 +71,8 @@ module _ (i : ℕ) (w : List ℕ) (il : i < most_qubits) (a : Started i w) where
   pub started_more : Started (i + 1) v
   started_more = record {
     words = c2.words;
-    done = λ k s l sl. ⊎_elim (λ e. rw e (here s sl)) (λ h. old_letter i il c1 c2 s k sl (λ e. omega arith) ∙ a.done k s h sl)
-        (eq-or-lt_of_le (le_of_suc-le-suc (subst (λ (n : ℕ). k < n) (add-one i) l)));
+    done = λ k s l sl. below_more (λ (j : ℕ). letter_at v s j ≡ letter (eqb s j) (eqb s (most_qubits + j))) i
+        (λ j h. old_letter i il c1 c2 s j sl (λ e. omega arith) ∙ a.done j s h sl) (here s sl) k l;
     rest = λ k l h. c2.behind k (omega arith) ∙ c1.behind k (omega arith) ∙ a.rest k (omega arith) h;
   }
 

@@ -1,6 +1,6 @@
 -- `measure_fixed::fixed_value` meets its contract. Assumes nothing.
-use mathlib.Core.Path.{◌≡◌, refl, sym, ap, ◌∙◌}
-use Prim.Native.Nat.{ℕ, zero, suc, ◌*◌, ◌<◌}
+use mathlib.Core.Path.{sym, ap, ◌∙◌}
+use Prim.Native.Nat.{ℕ, ◌*◌}
 use native.Mathlib.Omega.{arith}
 use lib.ListN.{get_or}
 use Rattle.limits.specs.Limits.{most_qubits}
@@ -10,17 +10,6 @@ use Rattle.measure_fixed.proofs.Counts.{minus_power}
 use Rattle.measure_fixed.proofs.Tied.{tied, fixed_none, fixed_one}
 use Rattle.measure_fixed.proofs.fixed_value.Goals as goal
 
--- what holds of one of two words, and so of all but the other
-but_first : (P : ℕ → Type 0) → P 1 → (t : ℕ) → t < 2 → (t ≡ 0 → ⊥) → P t
-but_first P a zero l e = absurd (e refl)
-but_first P a (suc zero) l e = a
-but_first P a (suc (suc t)) l e = absurd (omega arith)
-
-but_second : (P : ℕ → Type 0) → P 0 → (t : ℕ) → t < 2 → (t ≡ 1 → ⊥) → P t
-but_second P a zero l e = a
-but_second P a (suc zero) l e = absurd (e refl)
-but_second P a (suc (suc t)) l e = absurd (omega arith)
-
 pub returns-then-sel-eq0 : goal.returns-then-sel-eq0
 returns-then-sel-eq0 c =
     let r = c.args.rows.now in
@@ -29,7 +18,7 @@ returns-then-sel-eq0 c =
 pub returns-in-Some : goal.returns-in-Some
 returns-in-Some c =
     let r = c.args.rows.now in
-    fixed_one r.qubits c.args.a r.words r.holds r.few c.requires 0 (omega arith) (but_first _ c.if-tel-eq0.true) c.in-Some.minus c.in-Some.ensures
+    fixed_one r.qubits c.args.a r.words r.holds r.few c.requires 0 (omega arith) c.if-tel-eq0.true c.in-Some.minus c.in-Some.ensures
 
 pub returns-then-tel-eq0 : goal.returns-then-tel-eq0
 returns-then-tel-eq0 c =
@@ -40,7 +29,7 @@ returns-then-tel-eq0 c =
 pub returns-in-Some-lone_sign : goal.returns-in-Some-lone_sign
 returns-in-Some-lone_sign c =
     let r = c.args.rows.now in
-    fixed_one r.qubits c.args.a r.words r.holds r.few c.requires 1 (omega arith) (but_second _ c.if-sel-eq0-2.true) c.in-Some-lone_sign.minus c.in-Some-lone_sign.ensures
+    fixed_one r.qubits c.args.a r.words r.holds r.few c.requires 1 (omega arith) c.if-sel-eq0-2.true c.in-Some-lone_sign.minus c.in-Some-lone_sign.ensures
 
 pub returns : goal.returns
 returns c =

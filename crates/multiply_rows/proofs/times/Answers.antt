@@ -14,7 +14,7 @@ returns c =
     record {
       column = lettered _ c.requires c.store.ensures c.store-2.ensures (λ s l.
           simp (c.bitxor-nx.ensures s l, c.bitxor-nz.ensures s l, c.bitand-x.ensures s l, c.bitand-z.ensures s l, c.bitand.ensures s l, c.bitand-2.ensures s l, c.load.ensures s l, c.load-2.ensures s l)
-          (letters_law (bit_at w (8 * a.j) s && row_bit a.keep s) (bit_at w (8 * a.j + 4) s && row_bit a.keep s) (row_bit a.px s) (row_bit a.pz s) (row_bit a.mask s)));
+          (letters_law (bit_at w (8 * a.j) s && row_bit a.sets.kept s) (bit_at w (8 * a.j + 4) s && row_bit a.sets.kept s) (row_bit a.px s) (row_bit a.pz s) (row_bit a.sets.multiplied s)));
       counts = λ s l.
           simp (
             c.bitxor-4.ensures s l,
@@ -36,5 +36,5 @@ returns c =
             c.load.ensures s l,
             c.load-2.ensures s l,
           )
-          (counts_law (bit_at w (8 * a.j) s && row_bit a.keep s) (bit_at w (8 * a.j + 4) s && row_bit a.keep s) (row_bit a.px s) (row_bit a.pz s) (row_bit a.mask s) (row_bit a.counts.hi s) (row_bit a.counts.lo s));
+          (counts_law (bit_at w (8 * a.j) s && row_bit a.sets.kept s) (bit_at w (8 * a.j + 4) s && row_bit a.sets.kept s) (row_bit a.px s) (row_bit a.pz s) (row_bit a.sets.multiplied s) (row_bit a.counts.hi s) (row_bit a.counts.lo s));
     }
