@@ -3,7 +3,7 @@
 use Rattle.std.specs.Prelude.{List, [], ◌∷◌, ◌≡◌, ℕ, ◌-◌, length, drop}
 use Rattle.answers.specs.Verdict.{Verdict, accepted, refused, then, within, after, counted}
 use Rattle.archive.specs.Same.{Compared, compared, first_refused, second_refused}
-use Rattle.checking.specs.Check.{Size}
+use Rattle.checking.specs.declared.Size.{Size}
 use Rattle.half.specs.Half.{half_bits}
 use Rattle.readouts.specs.Readouts.{Weighed, possible, impossible}
 use Rattle.records.specs.Reading.{Read}

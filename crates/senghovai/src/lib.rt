@@ -22,7 +22,7 @@ fn refuse<const N: usize>(r: Refusal, answer: &mut [u64; N]) -> u64
     ensures number { result ≡ number_of r }
     ensures places { answer.new ≡ place_of r ∷ replicate (N - 1) 0 }
 {
-    *answer = [0; N];
+    answer.fill(0);
     answer[0] = r.place() as u64;
     r.number()
 }
