@@ -7,6 +7,7 @@ use std::rt::Files;
 use tool::Quit;
 
 // The rows stand between the outcomes and the 12 bytes at the end.
+#[tactic(auto, using(crate::proofs::Sizes::handed_sizes))]
 fn show<R: Files + Env + Print + Eprint + AllocGlobal>(rt: &R) -> Result<(), Quit> {
     let bytes = tool::tail(rt, 1)?;
     let mut words = [0u64; packing::WORDS];
