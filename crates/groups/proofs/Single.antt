@@ -1,11 +1,11 @@
 -- One row alone, by its word and its bit. Assumes nothing.
-use mathlib.Core.Path.{◌≡◌, refl, sym, ap, ◌∙◌}
+use mathlib.Core.Path.{◌≡◌, ap, ◌∙◌}
 use mathlib.Core.Bool.{Bool, true, false, ◌&&◌, cond}
 use Prim.Native.Nat.{ℕ, ◌*◌, ◌/◌, ◌%◌, ◌^◌, ◌<◌}
 use native.Mathlib.Nat.{mod-lt, zero-lt-suc}
 use native.Mathlib.Omega.{arith}
 use lib.Dec.{eqb}
-use borrow.Author.Tests.{eqb-true, eqb-false, eq-eqb, ne_eqb}
+use Rattle.std.proofs.lemmas.Bool.Decides.{nat_tests}
 use Rattle.words.specs.Bit.{bit}
 use Rattle.words.proofs.BitLaws.{bit-shl, bit-zero}
 use Rattle.packing.specs.View.{row_count}
@@ -19,15 +19,7 @@ bit-when k i false l = bit-zero k
 
 -- the number of a row, by its word and its bit
 number : (s t : ℕ) → (eqb (t / 64) (s / 64) && eqb (s % 64) (t % 64)) ≡ eqb s t
-number s t = go (eqb (t / 64) (s / 64)) refl (eqb (s % 64) (t % 64)) refl
-  where
-    go : (b : Bool) → eqb (t / 64) (s / 64) ≡ b → (c : Bool) → eqb (s % 64) (t % 64) ≡ c → (b && c) ≡ eqb s t
-    go true e true f =
-        let h : t / 64 ≡ s / 64 = eqb-true (t / 64) (s / 64) e in
-        let k : s % 64 ≡ t % 64 = eqb-true (s % 64) (t % 64) f in
-        sym (eq-eqb s t (omega arith))
-    go true e false f = sym (ne_eqb s t (λ r. eqb-false (s % 64) (t % 64) f (ap (λ (n : ℕ). n % 64) r)))
-    go false e c f = sym (ne_eqb s t (λ r. eqb-false (t / 64) (s / 64) e (ap (λ (n : ℕ). n / 64) (sym r))))
+number s t = grind (arith, nat_tests)
 
 module _ (t a b c d : ℕ) where
   abbrev Word : ℕ → Type 0

@@ -8,6 +8,7 @@ use native.Mathlib.Nat.{add-zero}
 use native.Mathlib.Decide.{dec_lt}
 use native.Mathlib.Omega.{arith}
 use lib.Dec.{eqb}
+use Rattle.std.proofs.lemmas.Bool.Decides.{nat_tests}
 use lib.ListN.{get_or}
 use borrow.Author.Tests.{eq-eqb, ne_eqb, eqb-true, eqb-false}
 use Rattle.limits.specs.Limits.{most_qubits}
@@ -31,8 +32,7 @@ shown = cases.tested (cases.bit ∷ cases.bit ∷ cases.bit ∷ []) cases.ltr _ 
 
 -- the number of a row, by its word and its bit
 same_number : (g q k : ℕ) → q < 64 → k / 64 ≡ g → (c : Bool) → eqb (k % 64) q ≡ c → eqb k (64 * g + q) ≡ c
-same_number g q k l h true d = let i : k % 64 ≡ q = eqb-true (k % 64) q d in eq-eqb k (64 * g + q) (omega arith)
-same_number g q k l h false d = let i : k % 64 ≢ q = eqb-false (k % 64) q d in ne_eqb k (64 * g + q) (λ r. omega arith)
+same_number g q k l h c d = grind (arith, nat_tests)
 
 module _ (n a : ℕ) (w : List ℕ) (h : Holds n w) (nl : n ≤ most_qubits) (an : a < n) where
   abbrev sel : ℕ

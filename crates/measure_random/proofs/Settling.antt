@@ -6,6 +6,7 @@ use mathlib.Core.Logic.{◌≢◌}
 use Prim.Native.Nat.{ℕ, ◌+◌, ◌*◌, ◌≤◌, ◌<◌}
 use native.Mathlib.Omega.{arith}
 use lib.Dec.{eqb}
+use Rattle.std.proofs.lemmas.Bool.Decides.{nat_tests}
 use borrow.Author.Tests.{eqb-true, eqb-false}
 use Rattle.limits.specs.Limits.{most_qubits}
 use Rattle.pauli.specs.Letters.{Letter, Z, I, x, z, letter, ◌⊕◌}
@@ -37,11 +38,7 @@ z_turned u v e = ap₂ (λ (s t : Bool). letter s (t ⊕ true)) (sym (x_letter u
 -- new letters at a, and elsewhere the old ones
 at_one : (n : ℕ) (f g : Letters) (a : ℕ) (l : Letter) → a < n → f a ≡ l → ((k : ℕ) → k < n → k ≢ a → f k ≡ g k)
     → (j : ℕ) → guard n f j ≡ cond (eqb j a) l (guard n g j)
-at_one n f g a l la e o j = go (eqb j a) refl
-  where
-    go : (b : Bool) → eqb j a ≡ b → guard n f j ≡ cond b l (guard n g j)
-    go true q = ap (guard n f) (eqb-true j a q) ∙ guard_in n f a la ∙ e
-    go false q = guarded n f j (guard n g j) (λ h. o j h (eqb-false j a q) ∙ sym (guard_in n g j h)) (λ h. guard_out n g j h)
+at_one n f g a l la e o j = grind (arith, nat_tests, o j)
 
 -- row q, which is all I, becomes Z on a, and the others stay
 module _ (n a : ℕ) (t : ℕ → Bool) (coin : Bool) (w v : List ℕ) (q : ℕ) (nl : n ≤ most_qubits) (an : a < n) (st : Settled a t coin w v) (all : row_at n w q ≡ blank) where

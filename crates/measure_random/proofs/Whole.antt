@@ -7,6 +7,7 @@ use Prim.Native.Nat.{ℕ, ◌+◌, ◌*◌, ◌%◌, ◌≤◌, ◌<◌}
 use native.Mathlib.Decide.{dec_lt}
 use native.Mathlib.Omega.{arith}
 use lib.Dec.{eqb}
+use Rattle.std.proofs.lemmas.Bool.Decides.{nat_tests}
 use borrow.Author.Tests.{ne_eqb, eq-eqb, eqb-true, eqb-false}
 use Rattle.limits.specs.Limits.{most_qubits}
 use Rattle.pauli.specs.Letters.{i0, sign, ◌⊞◌, ◌⊕◌}
@@ -43,19 +44,7 @@ and_true = tested (bool ∷ []) bool _ _ tt
 
 -- both rows of number p
 pub both_rows : (s p : ℕ) → s < row_count → p < most_qubits → eqb s p ⊕ eqb s (most_qubits + p) ≡ eqb (s % most_qubits) p
-both_rows s p l h = go (eqb s p) refl (eqb s (most_qubits + p)) refl
-  where
-    go : (b : Bool) → eqb s p ≡ b → (c : Bool) → eqb s (most_qubits + p) ≡ c → b ⊕ c ≡ eqb (s % most_qubits) p
-    go true e true f =
-        let i : s ≡ p = eqb-true s p e in
-        let j : s ≡ most_qubits + p = eqb-true s (most_qubits + p) f in
-        absurd (omega arith)
-    go true e false f = let i : s ≡ p = eqb-true s p e in sym (eq-eqb (s % most_qubits) p (omega arith))
-    go false e true f = let i : s ≡ most_qubits + p = eqb-true s (most_qubits + p) f in sym (eq-eqb (s % most_qubits) p (omega arith))
-    go false e false f =
-        let i : s ≢ p = eqb-false s p e in
-        let j : s ≢ most_qubits + p = eqb-false s (most_qubits + p) f in
-        sym (ne_eqb (s % most_qubits) p (λ r. omega arith))
+both_rows s p l h = grind (arith, nat_tests)
 
 with_partner : (x b : Bool) → (x && not b) ⊕ b ≡ (x || b)
 with_partner = tested (bool ∷ bool ∷ []) bool _ _ tt

@@ -10,8 +10,9 @@ use native.Mathlib.Omega.{arith}
 use borrow.Author.Count.{below_more}
 use lib.Bits.{bit_and, bit_or}
 use lib.Dec.{eqb, ltb}
+use Rattle.std.proofs.lemmas.Bool.Decides.{nat_tests}
 use lib.ListN.{get_or}
-use borrow.Author.Tests.{eqb-true, eqb-false, eq-eqb, ne_eqb}
+use borrow.Author.Tests.{eqb-true, eqb-false}
 use Rattle.limits.specs.Limits.{most_qubits}
 use Rattle.words.specs.Bit.{bit}
 use Rattle.pauli.specs.Letters.{Letter, I, letter, Power, i0, ◌⊕◌, ◌·◌, power, ◌⊞◌}
@@ -144,11 +145,7 @@ module _ (g i : ℕ) (gl : g < 2) (il : i < 64) (m : ℕ → Bool) (w₀ : List 
       now = same (64 * g + i) m (letter_at w₀ (most_qubits + (64 * g + i))) w₀ j w hi lo a jl s
 
       hit : s / 64 ≡ g → eqb (s % 64) i ≡ eqb (s % most_qubits) (64 * g + i)
-      hit e = both (eqb (s % 64) i) refl
-        where
-          both : (b : Bool) → eqb (s % 64) i ≡ b → b ≡ eqb (s % most_qubits) (64 * g + i)
-          both true f = let k : s % 64 ≡ i = eqb-true (s % 64) i f in sym (eq-eqb (s % most_qubits) (64 * g + i) (omega arith))
-          both false f = let k : s % 64 ≢ i = eqb-false (s % 64) i f in sym (ne_eqb (s % most_qubits) (64 * g + i) (λ q. omega arith))
+      hit e = grind (arith, nat_tests)
 
       other : (b : Bool) → eqb (s % most_qubits) (64 * g + i) ≡ b → s / 64 ≢ g → letter_at w₀ s j ≡ cond b I (letter_at w₀ s j)
       other true f d =

@@ -6,9 +6,9 @@ use native.Mathlib.Nat.{mod-lt, zero-lt-suc, pow-suc}
 use native.Mathlib.Decide.{dec_lt}
 use native.Mathlib.Omega.{arith}
 use lib.Dec.{eqb}
+use Rattle.std.proofs.lemmas.Bool.Decides.{nat_tests}
 use lib.ListN.{get_or}
 use lib.Seq.{ext_get_or}
-use borrow.Author.Tests.{eqb-true}
 use Rattle.words.specs.Bit.{bit}
 use Rattle.words.proofs.BitLaws.{bit-low, bit-suc}
 use Rattle.pauli.specs.Letters.{x, z}
@@ -22,13 +22,7 @@ use Rattle.packing.proofs.Views.{guard_in, rows_in}
 -- ---- words by their bits
 
 digits : (a b : ℕ) → a < 2 → b < 2 → eqb a 1 ≡ eqb b 1 → a ≡ b
-digits zero zero ha hb e = refl
-digits zero (suc zero) ha hb e = eqb-true 0 1 e
-digits (suc zero) zero ha hb e = sym (eqb-true 0 1 (sym e))
-digits (suc zero) (suc zero) ha hb e = refl
-digits (suc (suc a)) b ha hb e = absurd (omega arith)
-digits zero (suc (suc b)) ha hb e = absurd (omega arith)
-digits (suc zero) (suc (suc b)) ha hb e = absurd (omega arith)
+digits a b ha hb e = grind (arith, nat_tests)
 
 pub same_bits : (m a b : ℕ) → a < 2 ^ m → b < 2 ^ m → ((k : ℕ) → k < m → bit k a ≡ bit k b) → a ≡ b
 same_bits zero a b ha hb e = omega arith

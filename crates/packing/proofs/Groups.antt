@@ -7,6 +7,7 @@ use Prim.Native.Nat.{ℕ, zero, suc, ◌+◌, ◌*◌, ◌/◌, ◌%◌, ◌≤�
 use native.Mathlib.Nat.{add-zero}
 use native.Mathlib.Decide.{dec_lt}
 use native.Mathlib.Omega.{arith}
+use borrow.Author.Count.{below_none, below_more}
 use lib.Dec.{eqb}
 use lib.ListN.{length, get_or, set, length-set}
 use borrow.Author.Tests.{eqb-true, eqb-false}
@@ -23,11 +24,7 @@ word_of s l = omega arith
 
 -- what holds of each of four
 pub each_of : (P : ℕ → Type 0) → P 0 → P 1 → P 2 → P 3 → (g : ℕ) → g < 4 → P g
-each_of P a b c d zero h = a
-each_of P a b c d (suc zero) h = b
-each_of P a b c d (suc (suc zero)) h = c
-each_of P a b c d (suc (suc (suc zero))) h = d
-each_of P a b c d (suc (suc (suc (suc g)))) h = absurd (omega arith)
+each_of P a b c d = below_more P 3 (below_more P 2 (below_more P 1 (below_more P 0 (below_none P) a) b) c) d
 
 -- four words that are those of f
 each : (f : ℕ → ℕ) (g : ℕ) → g < 4 → four (f 0) (f 1) (f 2) (f 3) g ≡ f g

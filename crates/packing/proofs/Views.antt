@@ -4,6 +4,8 @@ use mathlib.Core.Bool.{Bool, true, false, cond}
 use mathlib.Core.List.{List}
 use Prim.Native.Nat.{ℕ, ◌+◌, ◌≤◌, ◌<◌}
 use lib.Dec.{ltb}
+use native.Mathlib.Omega.{arith}
+use Rattle.std.proofs.lemmas.Bool.Decides.{nat_tests}
 use borrow.Author.Tests.{lt-ltb, le-ltb, ltb-true, ltb-false}
 use Rattle.pauli.specs.Letters.{Letter, I, x}
 use Rattle.pauli.specs.Rows.{Letters, Row}
@@ -30,11 +32,7 @@ guard_out n f j l = rw (le-ltb j n l)
 
 -- a letter is what it should be if it is so below n, and I is right from n on
 pub guarded : (n : ℕ) (f : Letters) (j : ℕ) (l : Letter) → (j < n → f j ≡ l) → (n ≤ j → l ≡ I) → guard n f j ≡ l
-guarded n f j l below above = go (ltb j n) refl
-  where
-    go : (b : Bool) → ltb j n ≡ b → cond b (f j) I ≡ l
-    go true e = below (ltb-true j n e)
-    go false e = sym (above (ltb-false j n e))
+guarded n f j l below above = grind (arith, nat_tests)
 
 pub rows_in : (n o : ℕ) (w : List ℕ) (i : ℕ) → i < n → rows_from n o w i ≡ row_at n w (o + i)
 unfolding rows_from

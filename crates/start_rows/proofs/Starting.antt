@@ -8,6 +8,7 @@ use native.Mathlib.Nat.{mod-lt, zero-lt-suc}
 use native.Mathlib.Omega.{arith}
 use borrow.Author.Count.{below_more}
 use lib.Dec.{eqb, ltb}
+use Rattle.std.proofs.lemmas.Bool.Decides.{nat_tests}
 use lib.ListN.{get_or, set}
 use borrow.Author.Tests.{eqb-true, eqb-false, eq-eqb, ne_eqb, ltb-true, ltb-false, lt-ltb, le-ltb}
 use Rattle.limits.specs.Limits.{most_qubits}
@@ -32,15 +33,9 @@ started_none w lw e = record { words = lw; done = λ k s l. absurd (omega arith)
 -- a row's bit alone, in words that had none
 lone : (w : List ℕ) (o t i q s : ℕ) → q / 64 ≡ t → q % 64 ≡ i → i < 64 → bit_at w o s ≡ false
     → cond (eqb (s / 64) t) (bit (s % 64) ((1 * 2 ^ i) % 2 ^ 64)) (bit_at w o s) ≡ eqb s q
-lone w o t i q s et ei il z = go (eqb (s / 64) t) refl (eqb (s % 64) i) refl
-  where
-    go : (b : Bool) → eqb (s / 64) t ≡ b → (c : Bool) → eqb (s % 64) i ≡ c → cond b (bit (s % 64) ((1 * 2 ^ i) % 2 ^ 64)) (bit_at w o s) ≡ eqb s q
-    go true e true f =
-        let h : s / 64 ≡ t = eqb-true (s / 64) t e in
-        let k : s % 64 ≡ i = eqb-true (s % 64) i f in
-        bit-shl (s % 64) i il ∙ f ∙ sym (eq-eqb s q (omega arith))
-    go true e false f = bit-shl (s % 64) i il ∙ f ∙ sym (ne_eqb s q (λ r. eqb-false (s % 64) i f (ap (λ (n : ℕ). n % 64) r ∙ ei)))
-    go false e c f = z ∙ sym (ne_eqb s q (λ r. eqb-false (s / 64) t e (ap (λ (n : ℕ). n / 64) r ∙ et)))
+lone w o t i q s et ei il z =
+    let one : cond (eqb (s / 64) t) (eqb (s % 64) i) false ≡ eqb s q = grind (arith, nat_tests) in
+    rw (bit-shl (s % 64) i il, z) one
 
 module _ (i : ℕ) (w : List ℕ) (il : i < most_qubits) (a : Started i w) where
   abbrev b : ℕ
