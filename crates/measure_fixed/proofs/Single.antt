@@ -2,12 +2,12 @@
 use mathlib.Core.Path.{◌≡◌, refl, sym, ap, ◌∙◌}
 use mathlib.Core.Bool.{false}
 use Prim.Native.Nat.{ℕ, ◌+◌, ◌-◌, ◌/◌, ◌^◌, ◌≤◌, ◌<◌}
-use native.Mathlib.Decide.{dec_lt}
 use native.Mathlib.Omega.{arith}
 use lib.Bits.{bit_and, and_mask}
 use lib.Count.{count_trailing_zeros}
 use lib.Dec.{eqb}
-use borrow.Author.Tests.{eq-eqb, ne_eqb}
+use Rattle.std.proofs.lemmas.Bool.Decides.{nat_tests}
+use borrow.Author.Tests.{ne_eqb}
 use Rattle.pauli.specs.Rows.{Phased, minus_sign}
 use Rattle.pauli.proofs.LetterLaws.{sign_back}
 use Rattle.choices.proofs.Products.{product-cong, product-none, product-one}
@@ -32,17 +32,12 @@ module _ (n a p : ℕ) (t : Rows) (only : (k : ℕ) → k < n → has_x a (t.des
 
 -- the only bit of a word that is 1 when shifted down by its trailing zeros
 pub lone : (w k : ℕ) → w / 2 ^ count_trailing_zeros 64 w ≡ 1 → bit k w ≡ eqb k (count_trailing_zeros 64 w)
-lone w k e = go (dec_lt k (count_trailing_zeros 64 w)) (dec_lt (count_trailing_zeros 64 w) k)
+lone w k e = grind (arith, nat_tests, trailing_below 64 w k, above)
   where
     above : count_trailing_zeros 64 w ≤ k → bit k w ≡ eqb (k - count_trailing_zeros 64 w) 0
     above h =
         let q : k ≡ count_trailing_zeros 64 w + (k - count_trailing_zeros 64 w) = omega arith in
         ap (λ (i : ℕ). bit i w) q ∙ sym (shr_at (k - count_trailing_zeros 64 w) (count_trailing_zeros 64 w) w) ∙ ap (bit (k - count_trailing_zeros 64 w)) e ∙ bit-pow (k - count_trailing_zeros 64 w) 0
-
-    go : Dec (k < count_trailing_zeros 64 w) → Dec (count_trailing_zeros 64 w < k) → bit k w ≡ eqb k (count_trailing_zeros 64 w)
-    go (yes l) d = trailing_below 64 w k l ∙ sym (ne_eqb k (count_trailing_zeros 64 w) (λ q. omega arith))
-    go (no m) (yes l) = above (omega arith) ∙ ne_eqb (k - count_trailing_zeros 64 w) 0 (λ q. omega arith) ∙ sym (ne_eqb k (count_trailing_zeros 64 w) (λ q. omega arith))
-    go (no m) (no l) = above (omega arith) ∙ eq-eqb (k - count_trailing_zeros 64 w) 0 (omega arith) ∙ sym (eq-eqb k (count_trailing_zeros 64 w) (omega arith))
 
 -- `(w >> p) & 1 == 1`
 pub bit_test : (p w : ℕ) → eqb (bit_and (w / 2 ^ p) 1) 1 ≡ bit p w

@@ -1,18 +1,18 @@
 -- The letters of one qubit that are replaced, by the two groups of words that hold them. Assumes nothing.
-use mathlib.Core.Path.{◌≡◌, refl, sym, ap, ap₂, ◌∙◌}
-use mathlib.Core.Bool.{Bool, true, false, ◌&&◌, cond}
+use mathlib.Core.Path.{◌≡◌, sym, ap, ◌∙◌}
+use mathlib.Core.Bool.{Bool, ◌&&◌, cond}
 use mathlib.Core.List.{List}
 use Prim.Native.Nat.{ℕ, ◌+◌, ◌*◌, ◌/◌, ◌%◌, ◌<◌}
 use native.Mathlib.Omega.{arith}
 use lib.Bits.{bit_and}
 use lib.Dec.{eqb}
+use Rattle.std.proofs.lemmas.Bool.Decides.{nat_tests}
 use lib.ListN.{get_or, set}
-use borrow.Author.Tests.{eqb-true}
 use Rattle.limits.specs.Limits.{most_qubits}
 use Rattle.words.specs.Bit.{bit}
 use Rattle.words.proofs.BitLaws.{bit-and}
 use Rattle.pauli.specs.Letters.{Letter, letter}
-use Rattle.packing.specs.View.{row_count, Words, bit_at, letter_at}
+use Rattle.packing.specs.View.{row_count, Words, bit_at}
 use Rattle.packing.specs.Parts.Changes.{Changed}
 use Rattle.packing.proofs.Groups.{changed_one, elsewhere, new_letter}
 use Rattle.multiply_rows.specs.Parts.Steps.{Lettered, erased}
@@ -49,12 +49,4 @@ module _ (w : List ℕ) (lw : Words w) (j : ℕ) (jl : j < most_qubits) (g : ℕ
   cut_bit v o s e = bit-and (s % 64) (get_or v (o + g) 0) own ∙ ap (λ (t : ℕ). bit (s % 64) (get_or v (o + t) 0) && bit (s % 64) own) (sym e)
 
   pub erased_by : Lettered j (erased j g own w) w (set first (8 * j + 4 + g) (cut first (8 * j + 4)))
-  erased_by = lettered (erased j g own w) jl c d (λ s l. go s l (eqb (s / 64) g) refl)
-    where
-      go : (s : ℕ) → s < row_count → (b : Bool) → eqb (s / 64) g ≡ b
-          → letter (cond b (bit (s % 64) (cut w (8 * j))) (bit_at w (8 * j) s)) (cond b (bit (s % 64) (cut first (8 * j + 4))) (bit_at first (8 * j + 4) s))
-          ≡ cond b (letter (bit_at w (8 * j) s && bit (s % 64) own) (bit_at w (8 * j + 4) s && bit (s % 64) own)) (letter_at w s j)
-      go s l true e =
-          let k : s / 64 ≡ g = eqb-true (s / 64) g e in
-          ap₂ letter (cut_bit w (8 * j) s k) (cut_bit first (8 * j + 4) s k ∙ ap (λ (b : Bool). b && bit (s % 64) own) (uncut s l))
-      go s l false e = ap (letter (bit_at w (8 * j) s)) (uncut s l)
+  erased_by = lettered (erased j g own w) jl c d (λ s l. grind (arith, nat_tests, cut_bit w (8 * j) s, cut_bit first (8 * j + 4) s, uncut s l))

@@ -148,11 +148,9 @@ module _ (g i : ℕ) (gl : g < 2) (il : i < 64) (m : ℕ → Bool) (w₀ : List 
       hit e = grind (arith, nat_tests)
 
       other : (b : Bool) → eqb (s % most_qubits) (64 * g + i) ≡ b → s / 64 ≢ g → letter_at w₀ s j ≡ cond b I (letter_at w₀ s j)
-      other true f d =
-          let k : s % most_qubits ≡ 64 * g + i = eqb-true (s % most_qubits) (64 * g + i) f in
-          let e : s ≡ most_qubits + (64 * g + i) = omega arith in
-          ap (λ (r : ℕ). letter_at w₀ r j) e ∙ nothing
-      other false f d = refl
+      other b f d =
+          let e : s % most_qubits ≡ 64 * g + i → s ≡ most_qubits + (64 * g + i) = λ k. omega arith in
+          grind (arith, nat_tests, e, nothing)
 
       go : (b : Bool) → eqb (s / 64) g ≡ b → cond b (letter (bit_at w (8 * j) s && bit (s % 64) (keep i)) (bit_at w (8 * j + 4) s && bit (s % 64) (keep i))) (letter_at w s j) ≡ kept (64 * g + i) w₀ s j
       go true e =

@@ -1,6 +1,6 @@
 -- Four words that are loaded or stored side by side, and the bits of all their rows. Assumes nothing.
 use mathlib.Core.Path.{◌≡◌, refl, sym, ap, ap₂, ◌∙◌}
-use mathlib.Core.Bool.{Bool, true, false, cond}
+use mathlib.Core.Bool.{Bool, cond}
 use mathlib.Core.List.{List}
 use mathlib.Core.Logic.{◌≢◌}
 use Prim.Native.Nat.{ℕ, zero, suc, ◌+◌, ◌*◌, ◌/◌, ◌%◌, ◌≤◌, ◌<◌}
@@ -9,8 +9,8 @@ use native.Mathlib.Decide.{dec_lt}
 use native.Mathlib.Omega.{arith}
 use borrow.Author.Count.{below_none, below_more}
 use lib.Dec.{eqb}
+use Rattle.std.proofs.lemmas.Bool.Decides.{nat_tests}
 use lib.ListN.{length, get_or, set, length-set}
-use borrow.Author.Tests.{eqb-true, eqb-false}
 use lib.Seq.{get_or-set_same, get_or-set_other}
 use Rattle.words.specs.Bit.{bit}
 use Rattle.pauli.specs.Letters.{letter}
@@ -102,14 +102,10 @@ module _ (w : List ℕ) (lw : Words w) (o : ℕ) (lo : o + 4 ≤ word_count) (g 
   pub changed_one : Changed o (λ s. cond (eqb (s / 64) g) (bit (s % 64) v) (bit_at w o s)) w (set w (o + g) v)
   changed_one = record {
     words = simp length-set lw;
-    bits = λ s l. go s (eqb (s / 64) g) refl;
+    bits = λ s l. grind (arith, nat_tests, get_or-set_same w (o + g) v 0, get_or-set_other w (o + g) (o + s / 64) v 0);
     before = λ k l. get_or-set_other w (o + g) k v 0 (omega arith);
     behind = λ k l. get_or-set_other w (o + g) k v 0 (omega arith);
   }
-    where
-      go : (s : ℕ) (b : Bool) → eqb (s / 64) g ≡ b → bit_at (set w (o + g) v) o s ≡ cond b (bit (s % 64) v) (bit_at w o s)
-      go s true e = ap (λ (k : ℕ). bit (s % 64) (get_or (set w (o + g) v) (o + k) 0)) (eqb-true (s / 64) g e) ∙ ap (bit (s % 64)) (get_or-set_same w (o + g) v 0 (omega arith))
-      go s false e = let d : s / 64 ≢ g = eqb-false (s / 64) g e in ap (bit (s % 64)) (get_or-set_other w (o + g) (o + s / 64) v 0 (omega arith))
 
 -- a letter, of the words of its qubit that are replaced; and the other letters
 module _ (j : ℕ) (jl : j < most_qubits) {f g : ℕ → Bool} {w m w' : List ℕ} (c : Changed (8 * j) f w m) (d : Changed (8 * j + 4) g m w') where

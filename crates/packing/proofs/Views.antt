@@ -1,12 +1,12 @@
 -- When a row of the words is a given row: its sign and the first n letters decide. Assumes nothing.
-use mathlib.Core.Path.{◌≡◌, refl, sym, ap, ◌∙◌}
+use mathlib.Core.Path.{◌≡◌, refl, ap}
 use mathlib.Core.Bool.{Bool, true, false, cond}
 use mathlib.Core.List.{List}
 use Prim.Native.Nat.{ℕ, ◌+◌, ◌≤◌, ◌<◌}
 use lib.Dec.{ltb}
 use native.Mathlib.Omega.{arith}
 use Rattle.std.proofs.lemmas.Bool.Decides.{nat_tests}
-use borrow.Author.Tests.{lt-ltb, le-ltb, ltb-true, ltb-false}
+use borrow.Author.Tests.{lt-ltb, le-ltb}
 use Rattle.pauli.specs.Letters.{Letter, I, x}
 use Rattle.pauli.specs.Rows.{Letters, Row}
 use Rattle.clifford.specs.Tableau.{blank}
@@ -44,11 +44,7 @@ rows_out n o w i l = rw (le-ltb i n l)
 
 -- all n rows are what they should be if each row is, and blank is right from n on
 pub all_rows : (n o : ℕ) (w : List ℕ) (f : ℕ → Row) → ((i : ℕ) → i < n → row_at n w (o + i) ≡ f i) → ((i : ℕ) → n ≤ i → f i ≡ blank) → (i : ℕ) → rows_from n o w i ≡ f i
-all_rows n o w f below above i = go (ltb i n) refl
-  where
-    go : (b : Bool) → ltb i n ≡ b → rows_from n o w i ≡ f i
-    go true e = rows_in n o w i (ltb-true i n e) ∙ below i (ltb-true i n e)
-    go false e = rows_out n o w i (ltb-false i n e) ∙ sym (above i (ltb-false i n e))
+all_rows n o w f below above i = grind (arith, nat_tests, rows_in n o w i, rows_out n o w i, below i, above i)
 
 -- the x bit of a row tells whether it has X or Y
 pub x_at : (n : ℕ) (w : List ℕ) (s a : ℕ) → a < n → has_x a (row_at n w s) ≡ x (letter_at w s a)

@@ -1,8 +1,7 @@
 -- The words of the start rows: in the x words of qubit k row k alone is set, and in its z words row 128 + k. Assumes nothing.
 use mathlib.Core.Path.{◌≡◌, refl, sym, ap, ap₂, ◌∙◌}
-use mathlib.Core.Bool.{Bool, true, false, not, cond}
+use mathlib.Core.Bool.{Bool, false, not, cond}
 use mathlib.Core.List.{List}
-use mathlib.Core.Logic.{◌≢◌}
 use Prim.Native.Nat.{ℕ, ◌+◌, ◌*◌, ◌/◌, ◌%◌, ◌^◌, ◌≤◌, ◌<◌}
 use native.Mathlib.Nat.{mod-lt, zero-lt-suc}
 use native.Mathlib.Omega.{arith}
@@ -10,7 +9,7 @@ use borrow.Author.Count.{below_more}
 use lib.Dec.{eqb, ltb}
 use Rattle.std.proofs.lemmas.Bool.Decides.{nat_tests}
 use lib.ListN.{get_or, set}
-use borrow.Author.Tests.{eqb-true, eqb-false, eq-eqb, ne_eqb, ltb-true, ltb-false, lt-ltb, le-ltb}
+use borrow.Author.Tests.{ne_eqb, lt-ltb, le-ltb}
 use Rattle.limits.specs.Limits.{most_qubits}
 use Rattle.words.specs.Bit.{bit}
 use Rattle.words.proofs.BitLaws.{bit-zero, bit-shl}
@@ -82,18 +81,9 @@ module _ (n : ℕ) (w : List ℕ) (nl : n ≤ most_qubits) (a : Started n w) whe
 
   -- one letter, at the qubit of the row's own number
   own : (s j : ℕ) → s < row_count → j < n → (l : Letter) → letter (ltb s most_qubits) (not (ltb s most_qubits)) ≡ l → letter_at w s j ≡ cond (eqb j (s % most_qubits)) l I
-  own s j sl jl l e = a.done j s jl sl ∙ go (eqb j (s % most_qubits)) refl (ltb s most_qubits) refl
-    where
-      go : (p : Bool) → eqb j (s % most_qubits) ≡ p → (q : Bool) → ltb s most_qubits ≡ q → letter (eqb s j) (eqb s (most_qubits + j)) ≡ cond p l I
-      go true f true g =
-          let h : j ≡ s % most_qubits = eqb-true j (s % most_qubits) f in
-          let k : s < most_qubits = ltb-true s most_qubits g in
-          ap₂ letter (eq-eqb s j (omega arith)) (ne_eqb s (most_qubits + j) (λ r. omega arith)) ∙ sym (ap₂ letter g (ap not (lt-ltb s most_qubits (omega arith)))) ∙ e
-      go true f false g =
-          let h : j ≡ s % most_qubits = eqb-true j (s % most_qubits) f in
-          let k : most_qubits ≤ s = ltb-false s most_qubits g in
-          ap₂ letter (ne_eqb s j (λ r. omega arith)) (eq-eqb s (most_qubits + j) (omega arith)) ∙ sym (ap₂ letter g (ap not (le-ltb s most_qubits (omega arith)))) ∙ e
-      go false f q g = let h : j ≢ s % most_qubits = eqb-false j (s % most_qubits) f in ap₂ letter (ne_eqb s j (λ r. omega arith)) (ne_eqb s (most_qubits + j) (λ r. omega arith))
+  own s j sl jl l e =
+      let one : letter (eqb s j) (eqb s (most_qubits + j)) ≡ cond (eqb j (s % most_qubits)) l I = grind (arith, nat_tests, e) in
+      a.done j s jl sl ∙ one
 
   pub started : rows_of n w ≡ start n
   unfolding row_at
