@@ -1,6 +1,6 @@
 -- The laws of the row product's parts: powers as numbers, and the bytes of the answer. Assumes nothing.
-use mathlib.Core.Path.{◌≡◌, refl, sym, ◌∙◌, ap}
-use mathlib.Core.Bool.{Bool, true, false, true≢false}
+use mathlib.Core.Path.{◌≡◌, sym, ◌∙◌, ap}
+use mathlib.Core.Bool.{Bool, false}
 use mathlib.Core.List.{List, ◌++◌}
 use Prim.Native.Nat.{ℕ, zero, suc, ◌+◌, ◌-◌, ◌*◌, ◌%◌, ◌≤◌, ◌<◌}
 use native.Mathlib.Omega.{arith}
@@ -10,7 +10,7 @@ use lib.Seq.{drop-set-lt}
 use mir.Val.{bool_byte}
 use Rattle.answers.specs.Verdict.{over}
 use Rattle.answers.proofs.Writing.{written, written_more, written_all, length-written}
-use Rattle.pauli.specs.Letters.{Power, i0, i1, i2, i3, ◌⊞◌, sign, odd, ◌·◌, power}
+use Rattle.pauli.specs.Letters.{Power, ◌⊞◌, sign, odd, ◌·◌, power}
 use Rattle.pauli.specs.Rows.{total, mul, minus_sign}
 use Rattle.pauli.specs.Texts.{letter_byte, letter_of, sign_byte, spelled}
 use Rattle.pauli.proofs.LetterLaws.{power_adds, add_assoc}
@@ -20,35 +20,20 @@ use Rattle.product.specs.Parts.Table.{power_number, letter_text}
 -- ---- powers as numbers
 
 pub number_below : (p : Power) → power_number p ≤ 3
-number_below i0 = omega arith
-number_below i1 = omega arith
-number_below i2 = omega arith
-number_below i3 = omega arith
+number_below p = grind arith
 
 number_plus : (p q : Power) → (power_number p + power_number q) % 4 ≡ power_number (p ⊞ q)
-number_plus i0 = elim [ i0 ↦ refl | i1 ↦ refl | i2 ↦ refl | i3 ↦ refl ]
-number_plus i1 = elim [ i0 ↦ refl | i1 ↦ refl | i2 ↦ refl | i3 ↦ refl ]
-number_plus i2 = elim [ i0 ↦ refl | i1 ↦ refl | i2 ↦ refl | i3 ↦ refl ]
-number_plus i3 = elim [ i0 ↦ refl | i1 ↦ refl | i2 ↦ refl | i3 ↦ refl ]
+number_plus p q = grind arith
 
 pub number_more : (sum : ℕ) (p q : Power) → sum % 4 ≡ power_number p → (sum + power_number q) % 4 ≡ power_number (p ⊞ q)
-number_more sum p q e = carry sum (power_number q) (power_number p) e ∙ number_plus p q
-  where
-    carry : (s x y : ℕ) → s % 4 ≡ y → (s + x) % 4 ≡ (y + x) % 4
-    carry s x y e = omega arith
+number_more sum p q e = omega (arith, number_plus p q)
 
 pub number_odd : (p : Power) → eqb (power_number p % 2) 1 ≡ odd p
-number_odd i0 = refl
-number_odd i1 = refl
-number_odd i2 = refl
-number_odd i3 = refl
+number_odd p = grind arith
 
 -- an even power is minus exactly where it is two
 pub number_sign : (p : Power) → odd p ≡ false → eqb (power_number p) 2 ≡ minus_sign p
-number_sign i0 e = refl
-number_sign i1 e = absurd (true≢false e)
-number_sign i2 e = refl
-number_sign i3 e = absurd (true≢false e)
+number_sign p e = grind arith
 
 -- ---- bytes
 
@@ -75,8 +60,7 @@ pub record Summed (first second : List ℕ) (sum k : ℕ) : Type 0 where
 
 -- a minus counts as two
 minus_number : (b : Bool) → 2 * bool_byte b ≡ power_number (sign b)
-minus_number true = refl
-minus_number false = refl
+minus_number b = grind arith
 
 pub sum-none : (first second : List ℕ) → Summed first second (2 * (bool_byte (eqb (get_or first 0 0) 45) + bool_byte (eqb (get_or second 0 0) 45))) 1
 sum-none first second =

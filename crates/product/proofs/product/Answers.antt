@@ -1,4 +1,4 @@
-use Rattle.std.proofs.Common.{refl, sym, arith, rules, eqb, ◌%◌, length}
+use Rattle.std.proofs.Common.{sym, arith, rules, eqb, ◌%◌, length}
 use Rattle.answers.proofs.First.{lowest_below}
 use Rattle.answers.proofs.Answered.{refuses, has_no_room, has_written}
 use Rattle.product.specs.Parts.Table.{letter_text}
@@ -23,12 +23,12 @@ pub returns-then-out-size : goal.returns-then-out-size
 returns-then-out-size c =
     let k = text_length c.args.first.now c.args.second.now (eqb (c.power_sum-sum.result % 4) 2) (omega arith) in
     has_no_room _ _ _
-    (even_product c.args.first.now c.args.second.now (search rules) c.in_default.ensures c.in_default-first_unlisted.ensures _ c.power_sum-sum.ensures _ c.if-sum-eq1.false refl)
+    (even_product c.args.first.now c.args.second.now (search rules) c.in_default.ensures c.in_default-first_unlisted.ensures _ c.power_sum-sum.ensures c.if-sum-eq1.false)
     (omega (arith, k))
 
 pub returns : goal.returns
 returns c =
     let k = text_length c.args.first.now c.args.second.now (eqb (c.power_sum-sum.result % 4) 2) (omega arith) in
     has_written _ _ (letter_text c.args.first.now c.args.second.now (eqb (c.power_sum-sum.result % 4) 2)) _ _
-    (even_product c.args.first.now c.args.second.now (search rules) c.in_default.ensures c.in_default-first_unlisted.ensures _ c.power_sum-sum.ensures _ c.if-sum-eq1.false refl)
+    (even_product c.args.first.now c.args.second.now (search rules) c.in_default.ensures c.in_default-first_unlisted.ensures _ c.power_sum-sum.ensures c.if-sum-eq1.false)
     (omega (arith, k)) (sym k) c.write.ensures
