@@ -19,7 +19,8 @@ use Rattle.pauli.proofs.Sums.{sum-cong, sum-zero}
 use Rattle.packing.specs.View.{row_count, letter_at, rows_of, Holds}
 use Rattle.packing.proofs.Determined.{row_letter}
 use Rattle.packing.proofs.Views.{rows_in}
-use Rattle.records.specs.Reading.{is_some, wrong_pair, first_wrong}
+use Rattle.std.specs.Prelude.{is_some}
+use Rattle.records.specs.Reading.{wrong_pair, first_wrong}
 use Rattle.clifford.specs.Tableau.{numbered}
 use Rattle.clifford.proofs.Partners.{numbered_low, numbered_high}
 use Rattle.records.proofs.Pairs.{xor_same, same_xor}

@@ -24,7 +24,7 @@ fn find(bytes: &[u8], words: &mut Words) -> Result<Last, Refusal>
 {
     let last = trailer::last(bytes).ok_or(Refusal::NoRecord)?;
     let first = last.start + last.outcomes;
-    let end = bytes.len() - trailer::SIZE;
+    let end = bytes.len() - limits::TRAILER;
     let rows = RowTexts {
         bytes: &bytes[first..end],
         qubits: last.qubits,

@@ -3,14 +3,14 @@ ghost use Rattle.std.specs.Prelude.{◌≡◌};
 ghost use Rattle.reading.specs.Answer.{last_of};
 
 use crate::Last;
-
-pub const SIZE: usize = 12;
+use limits::{MOST_OPERATIONS, MOST_QUBITS, TRAILER};
 
 // The last record of the bytes, if they end in one.
 pub fn last(bytes: &[u8]) -> Option<Last>
     ensures { result ≡ last_of bytes.now }
 {
-    let &[r0, r1, r2, r3, s0, s1, s2, s3, n0, n1, b'S', b'R'] = bytes.last_chunk::<SIZE>()? else {
+    let &[r0, r1, r2, r3, s0, s1, s2, s3, n0, n1, b'S', b'R'] = bytes.last_chunk::<TRAILER>()?
+    else {
         return None;
     };
     let to_rows = u32::from_le_bytes([r0, r1, r2, r3]) as usize;
@@ -19,9 +19,9 @@ pub fn last(bytes: &[u8]) -> Option<Last>
     let outcomes = to_start.checked_sub(to_rows)?;
     let start = bytes.len().checked_sub(to_start)?;
     if 1 <= qubits
-        && qubits <= limits::MOST_QUBITS
-        && outcomes <= limits::MOST_OPERATIONS
-        && to_rows == SIZE + 2 * (qubits * (qubits + 1))
+        && qubits <= MOST_QUBITS
+        && outcomes <= MOST_OPERATIONS
+        && to_rows == records::to_rows(qubits)
     {
         Some(Last {
             start,

@@ -14,7 +14,8 @@ use Rattle.pauli.specs.Rows.{Letters, anticommute}
 use Rattle.pauli.proofs.RowLaws.{anticommute-self, anticommute-swap}
 use Rattle.clifford.specs.Tableau.{Rows, Paired, numbered}
 use Rattle.clifford.proofs.Partners.{numbered_low, numbered_high}
-use Rattle.records.specs.Reading.{wrong_pair, is_some, first_wrong}
+use Rattle.std.specs.Prelude.{is_some}
+use Rattle.records.specs.Reading.{wrong_pair, first_wrong}
 
 pub xor_same : (a b : Bool) → a ≡ b → a ⊕ b ≡ false
 xor_same true true e = refl

@@ -1,6 +1,6 @@
 -- Reading the last record of some bytes: its rows and outcomes, or refusal 9, 10 or 11. Document 01, "The run record" and "Numbered refusals". Assumes nothing.
 use Rattle.std.specs.Prelude.{Bool, true, false, not, ◌&&◌, cond, List, [], ◌∷◌, ℕ, ◌+◌, ◌-◌, ◌*◌, ◌%◌, eqb, leb, ltb, length, get_or, take, drop}
-use Rattle.std.specs.Prelude.{Option, None, Some}
+use Rattle.std.specs.Prelude.{Option, None, Some, is_some}
 use Rattle.answers.specs.First.{lowest}
 use Rattle.answers.specs.Verdict.{Verdict, accepted, unless, unless_at}
 use Rattle.pauli.specs.Letters.{◌⊕◌}
@@ -78,10 +78,6 @@ rows_in n count r = record {
 -- a lower and an upper row are a wrong pair: partners that commute, or others that anticommute
 abbrev pub wrong_pair : ℕ → Rows → ℕ → ℕ → Bool
 wrong_pair n t i j = ltb i j && (anticommute n (numbered n t i).letters (numbered n t j).letters ⊕ eqb j (n + i))
-
-abbrev pub is_some : Option ℕ → Bool
-is_some None = false
-is_some (Some k) = true
 
 -- 11: the lower row of the first wrong pair, by lower row, then upper
 unfoldable pub first_wrong : ℕ → Rows → Option ℕ

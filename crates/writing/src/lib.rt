@@ -9,7 +9,7 @@ ghost use Rattle.answers.specs.Verdict.{over};
 ghost use Rattle.pauli.specs.Texts.{letter_byte, row_text};
 ghost use Rattle.packing.specs.Planes.{plane_size, plane_letter};
 ghost use Rattle.packing.specs.View.{row_count, rows_of};
-ghost use Rattle.records.specs.Record.{to_rows, trailer, record_with, record_length};
+ghost use Rattle.records.specs.Record.{trailer, record_with, record_length};
 ghost use Rattle.writing.specs.Parts.Placed.{placed, texts_from};
 ghost use Rattle.writing.specs.Parts.Planes.{Filled, PlaneOf, PlanesOf, plane_row};
 
@@ -104,18 +104,11 @@ fn put(out: &mut [u8], at: usize, text: &[u8])
     out[at..at + text.len()].copy_from_slice(text);
 }
 
-fn distance(n: usize) -> usize
-    requires { n ≤ most_qubits }
-    ensures { result ≡ to_rows n }
-{
-    12 + 2 * (n * (n + 1))
-}
-
 fn put_trailer(out: &mut [u8], at: usize, n: usize, count: usize)
     requires { (n ≤ most_qubits) × (count ≤ most_operations) × (at + 12 ≤ length out.old) }
     ensures { out.new ≡ placed out.old at (trailer n count) }
 {
-    let rows = distance(n);
+    let rows = records::to_rows(n);
     let start = rows + count;
     put(out, at, &(rows as u32).to_le_bytes());
     put(out, at + 4, &(start as u32).to_le_bytes());
@@ -127,7 +120,7 @@ pub fn record_size(n: usize, outcomes: usize) -> usize
     requires { (n ≤ most_qubits) × (outcomes ≤ most_operations) }
     ensures { result ≡ record_length n outcomes }
 {
-    outcomes + distance(n)
+    outcomes + records::to_rows(n)
 }
 
 pub fn put_record(out: &mut [u8], marks: &[u8], words: &Words, n: usize) -> usize

@@ -17,8 +17,8 @@ returns-in_err-start c =
     let t = last_tested c.args.bytes.now _ w.0 w.1.same (search rules) (search rules) _ _ _ c.from_le_bytes-to_rows.ensures c.from_le_bytes-to_start.ensures c.from_le_bytes.ensures in
     grind (arith, nat_tests)
 
-pub returns-then-to_rows-qubits : goal.returns-then-to_rows-qubits
-returns-then-to_rows-qubits c =
+pub returns-then-to_rows : goal.returns-then-to_rows
+returns-then-to_rows c =
     let w = c.in_ok-r0.ensures.cases in
     let t = last_tested c.args.bytes.now _ w.0 w.1.same (search rules) (search rules) _ _ _ c.from_le_bytes-to_rows.ensures c.from_le_bytes-to_start.ensures c.from_le_bytes.ensures in
     grind (arith, nat_tests)
