@@ -1,5 +1,5 @@
 -- Laws of a text placed in a buffer: nothing placed, one byte more, and one text behind another. Assumes nothing.
-use mathlib.Core.Path.{◌≡◌, refl, sym, ◌∙◌, ap, ap₂}
+use mathlib.Core.Path.{◌≡◌, sym, ◌∙◌, ap, ap₂}
 use mathlib.Core.List.{List, [], ◌∷◌, ◌++◌, append_assoc, append-nil}
 use Prim.Native.Nat.{ℕ, suc, ◌+◌, ◌-◌, ◌≤◌, ◌<◌}
 use native.Mathlib.Nat.{add-zero, zero-add}
@@ -8,12 +8,20 @@ use native.Mathlib.Omega.{arith}
 use lib.ListN.{length, take, drop, set, length-append, length-take, length-drop, take-append-drop}
 use lib.Seq.{length-take-le, take_at, drop_at, drop-drop, set_split, append_snoc}
 use borrow.Rule.Slice.PartMut.{put_mid}
+use Rattle.std.proofs.lemmas.List.{drop_all, take_rest}
 use Rattle.answers.specs.Verdict.{over}
-use Rattle.writing.specs.Parts.Placed.{placed}
+
+-- the bytes of old, but the text from this position on, as far as it goes
+unfoldable pub placed : List ℕ → ℕ → List ℕ → List ℕ
+placed old at text = take at old ++ text ++ drop (at + length text) old
 
 pub placed_none : (old : List ℕ) (at : ℕ) → old ≡ placed old at []
 unfolding placed
 placed_none old at = sym (rw (append-nil, add-zero, take-append-drop))
+
+-- a text that is copied to the front
+pub front_copied : (old new text : List ℕ) (k : ℕ) → new ≡ text → k ≡ length text → put_mid 0 k old new ≡ over text old
+front_copied old new text k e l = ap₂ (λ (s : List ℕ) (m : ℕ). s ++ drop m old) e l
 
 pub placed_front : (old text : List ℕ) → placed old 0 text ≡ over text old
 unfolding placed
@@ -23,12 +31,14 @@ pub length-placed : (old : List ℕ) (at : ℕ) (s : List ℕ) → at + length s
 unfolding placed
 length-placed old at s h = simp (length-append, length-take, length-drop) (omega arith)
 
--- a text that is copied into its place
-pub mid_placed : (old text new : List ℕ) (at : ℕ) → new ≡ text → put_mid at (at + length text - at) old new ≡ placed old at text
+-- a text that is put at the front of what begins at its place
+pub rest_placed : (old new text : List ℕ) (at : ℕ) → at + length text ≤ length old → new ≡ over text (take (length old - at) (drop at old)) → put_mid at (length old - at) old new ≡ placed old at text
 unfolding placed
-mid_placed old text new at e =
-    let n : at + length text - at ≡ length text = omega arith in
-    sym (append_assoc (take at old) new (drop (at + length text - at) (drop at old))) ∙ ap₂ (λ (s t : List ℕ). take at old ++ s ++ t) e (ap (λ (k : ℕ). drop k (drop at old)) n ∙ drop-drop (length text) at old)
+rest_placed old new text at h en =
+    let ep : take (length old - at) (drop at old) ≡ drop at old = take_rest old at in
+    let none : drop (length old - at) (drop at old) ≡ [] = drop_all (length old - at) (drop at old) (omega (arith, length-drop at old)) in
+    ap₂ (λ (s t : List ℕ). take at old ++ (s ++ t)) (en ∙ ap (λ (s : List ℕ). text ++ drop (length text) s) ep ∙ ap (λ (s : List ℕ). text ++ s) (drop-drop (length text) at old)) none
+    ∙ ap (λ (s : List ℕ). take at old ++ s) (append-nil (text ++ drop (at + length text) old)) ∙ sym (append_assoc (take at old) text (drop (at + length text) old))
 
 -- a text that is placed where the one before it ends
 pub placed_more : (old : List ℕ) (at : ℕ) (s t : List ℕ) (p : ℕ) → p ≡ at + length s → p + length t ≤ length old → placed (placed old at s) p t ≡ placed old at (s ++ t)
@@ -60,5 +70,9 @@ module _ (old new : List ℕ) (at : ℕ) (s : List ℕ) (is : new ≡ placed old
       let l : length new ≡ length old = kept (omega arith) in
       then_placed (set new p b) p (b ∷ []) (set_placed new p b (omega arith)) q (omega arith) ∙ ap (placed old at) e
 
-pub two_placed : (old : List ℕ) (at a b : ℕ) → at + 2 ≤ length old → set (set old at a) (at + 1) b ≡ placed old at (a ∷ b ∷ [])
-two_placed old at a b h = then_byte old (set old at a) at (a ∷ []) (set_placed old at a (omega arith)) (at + 1) b (a ∷ b ∷ []) refl refl (omega arith)
+-- a text that is put behind one at the front
+pub put_behind : (old new part s text : List ℕ) (p : ℕ) → new ≡ placed old 0 s → p ≡ length s → p + length text ≤ length old → part ≡ over text (take (length new - p) (drop p new))
+    → put_mid p (length new - p) new part ≡ placed old 0 (s ++ text)
+put_behind old new part s text p is e h ep =
+    let l : length new ≡ length old = kept old new 0 s is (omega arith) in
+    then_placed old new 0 s is _ p text (rest_placed new part text p (omega arith) ep) (omega arith) (omega arith)

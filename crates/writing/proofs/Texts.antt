@@ -16,7 +16,8 @@ use Rattle.packing.proofs.Views.{guard, guard_in, rows_in}
 use Rattle.records.specs.Record.{joined}
 use Rattle.records.proofs.Joined.{listed_more, listed_split, joined_append, joined_more}
 use Rattle.records.proofs.Lengths.{length-row_text, length-joined}
-use Rattle.writing.specs.Parts.Placed.{placed, texts_from}
+use Rattle.writing.proofs.Placing.{placed}
+use Rattle.writing.specs.Parts.Texts.{texts_from}
 use Rattle.packing.specs.Planes.{plane_letter}
 use Rattle.packing.specs.declared.Planes.{Planes}
 use Rattle.writing.specs.Parts.Planes.{PlanesOf, plane_row}

@@ -1,5 +1,5 @@
 // The run record, written into a lent buffer: the outcome characters, the 2n rows, and the trailer that points back. Each part
-// writes its text at a position and leaves the rest of the buffer as it was. The bits of the rows are first put into bytes, so that
+// writes its text at the front of what it is lent and leaves the rest as it was. The bits of the rows are first put into bytes, so that
 // letters are made sixteen at a time in one register.
 #![tactic(auto)]
 
@@ -10,7 +10,7 @@ ghost use Rattle.pauli.specs.Texts.{letter_byte, row_text};
 ghost use Rattle.packing.specs.Planes.{plane_size, plane_letter};
 ghost use Rattle.packing.specs.View.{row_count, rows_of};
 ghost use Rattle.records.specs.Record.{trailer, record_with, record_length};
-ghost use Rattle.writing.specs.Parts.Placed.{placed, texts_from};
+ghost use Rattle.writing.specs.Parts.Texts.{texts_from};
 ghost use Rattle.writing.specs.Parts.Planes.{Filled, PlaneOf, PlanesOf, plane_row};
 
 use packing::{PLANE, Planes, Words};
@@ -64,56 +64,55 @@ fn letter_in(p: &Planes, i: usize, j: usize) -> u8
     pauli::letter_byte(x, z)
 }
 
-fn put_row(out: &mut [u8], at: usize, p: &Planes, i: usize, n: usize)
-    requires { (i < 64) × (n ≤ most_qubits) × (at + (n + 1) ≤ length out.old) }
-    ensures { out.new ≡ placed out.old at (row_text n (plane_row p.now i)) }
+fn put_row(out: &mut [u8], p: &Planes, i: usize, n: usize)
+    requires { (i < 64) × (n ≤ most_qubits) × (n + 1 ≤ length out.old) }
+    ensures { out.new ≡ over (row_text n (plane_row p.now i)) out.old }
 {
-    out[at] = pauli::sign_byte((p.signs >> i) % 2 == 1);
-    let first = at + 1;
+    out[0] = pauli::sign_byte((p.signs >> i) % 2 == 1);
     for j in 0..n {
-        out[first + j] = letter_in(p, i, j);
+        out[1 + j] = letter_in(p, i, j);
     }
 }
 
 // The first k rows of word g of each group of four.
-fn put_rows(out: &mut [u8], at: usize, words: &Words, g: usize, k: usize, n: usize)
-    requires { (g < 4) × (k ≤ 64) × (n ≤ most_qubits) × (at + k * (n + 1) ≤ length out.old) }
-    ensures { out.new ≡ placed out.old at (texts_from n words.now (64 * g) k) }
+fn put_rows(out: &mut [u8], words: &Words, g: usize, k: usize, n: usize)
+    requires { (g < 4) × (k ≤ 64) × (n ≤ most_qubits) × (k * (n + 1) ≤ length out.old) }
+    ensures { out.new ≡ over (texts_from n words.now (64 * g) k) out.old }
 {
     let p = planes(words, g, n);
     for i in 0..k {
-        put_row(out, at + i * (n + 1), &p, i, n);
+        put_row(&mut out[i * (n + 1)..], &p, i, n);
     }
 }
 
 // The n rows of one kind, of which the first is in word `first`: words that are full, and the last.
-fn put_group(out: &mut [u8], at: usize, words: &Words, first: usize, n: usize)
-    requires { (64 * first + most_qubits ≤ row_count) × (1 ≤ n) × (n ≤ most_qubits) × (at + n * (n + 1) ≤ length out.old) }
-    ensures { out.new ≡ placed out.old at (texts_from n words.now (64 * first) n) }
+fn put_group(out: &mut [u8], words: &Words, first: usize, n: usize)
+    requires { (64 * first + most_qubits ≤ row_count) × (1 ≤ n) × (n ≤ most_qubits) × (n * (n + 1) ≤ length out.old) }
+    ensures { out.new ≡ over (texts_from n words.now (64 * first) n) out.old }
 {
     for done in (0..n).step_by(64) {
         let g = first + done / 64;
-        put_rows(out, at + done * (n + 1), words, g, (n - done).min(64), n);
+        put_rows(&mut out[done * (n + 1)..], words, g, (n - done).min(64), n);
     }
 }
 
-fn put(out: &mut [u8], at: usize, text: &[u8])
-    requires { at + length text.now ≤ length out.old }
-    ensures { out.new ≡ placed out.old at text.now }
+fn put(out: &mut [u8], text: &[u8])
+    requires { length text.now ≤ length out.old }
+    ensures { out.new ≡ over text.now out.old }
 {
-    out[at..at + text.len()].copy_from_slice(text);
+    out[..text.len()].copy_from_slice(text);
 }
 
-fn put_trailer(out: &mut [u8], at: usize, n: usize, count: usize)
-    requires { (n ≤ most_qubits) × (count ≤ most_operations) × (at + 12 ≤ length out.old) }
-    ensures { out.new ≡ placed out.old at (trailer n count) }
+fn put_trailer(out: &mut [u8], n: usize, count: usize)
+    requires { (n ≤ most_qubits) × (count ≤ most_operations) × (12 ≤ length out.old) }
+    ensures { out.new ≡ over (trailer n count) out.old }
 {
     let rows = records::to_rows(n);
     let start = rows + count;
-    put(out, at, &(rows as u32).to_le_bytes());
-    put(out, at + 4, &(start as u32).to_le_bytes());
-    put(out, at + 8, &(n as u16).to_le_bytes());
-    put(out, at + 10, b"SR");
+    put(out, &(rows as u32).to_le_bytes());
+    put(&mut out[4..], &(start as u32).to_le_bytes());
+    put(&mut out[8..], &(n as u16).to_le_bytes());
+    put(&mut out[10..], b"SR");
 }
 
 pub fn record_size(n: usize, outcomes: usize) -> usize
@@ -129,9 +128,9 @@ pub fn put_record(out: &mut [u8], marks: &[u8], words: &Words, n: usize) -> usiz
 {
     let count = marks.len();
     let half = n * (n + 1);
-    put(out, 0, marks);
-    put_group(out, count, words, 0, n);
-    put_group(out, count + half, words, STABILIZERS, n);
-    put_trailer(out, count + half + half, n, count);
+    put(out, marks);
+    put_group(&mut out[count..], words, 0, n);
+    put_group(&mut out[count + half..], words, STABILIZERS, n);
+    put_trailer(&mut out[count + half + half..], n, count);
     record_size(n, count)
 }

@@ -1,5 +1,6 @@
-use Rattle.writing.proofs.Placing.{mid_placed}
+use Rattle.std.proofs.Common.{arith}
+use Rattle.writing.proofs.Placing.{front_copied}
 use Rattle.writing.proofs.put.Goals as goal
 
 pub returns : goal.returns
-returns c = mid_placed c.args.out.now c.args.text.now _ c.args.at c.copy_from_slice.ensures.after
+returns c = front_copied c.args.out.now _ c.args.text.now _ c.copy_from_slice.ensures.after (omega arith)
