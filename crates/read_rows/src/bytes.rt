@@ -38,16 +38,6 @@ fn all_in_row(row: &[u8]) -> bool
     ok
 }
 
-fn all_in_rows(rows: &RowTexts) -> bool
-    ensures { NoneWhere result (λ k. not (fits_at (k % (rows.now.qubits + 1)) (get_or rows.now.bytes.now k 0))) (length rows.now.bytes.now) }
-{
-    let mut ok = true;
-    for i in 0..2 * rows.qubits {
-        ok &= all_in_row(rows.row(i));
-    }
-    ok
-}
-
 // The first byte of a row that is not listed.
 fn in_row(row: &[u8]) -> Option<usize>
     ensures { result ≡ lowest (λ k. not (fits_at k (get_or row.now k 0))) (length row.now) }
@@ -60,27 +50,40 @@ fn in_row(row: &[u8]) -> Option<usize>
     Some(1 + k)
 }
 
-fn in_rows(rows: &RowTexts) -> Option<usize>
-    ensures { result ≡ lowest (λ k. not (fits_at (k % (rows.now.qubits + 1)) (get_or rows.now.bytes.now k 0))) (length rows.now.bytes.now) }
-{
-    for i in 0..2 * rows.qubits {
-        if let Some(k) = in_row(rows.row(i)) {
-            return Some(i * (rows.qubits + 1) + k);
+impl RowTexts<'_> {
+    fn all_in_rows(&self) -> bool
+        ensures { NoneWhere result (λ k. not (fits_at (k % (self.now.qubits + 1)) (get_or self.now.bytes.now k 0))) (length self.now.bytes.now) }
+    {
+        let mut ok = true;
+        for i in 0..2 * self.qubits {
+            ok &= all_in_row(self.row(i));
         }
+        ok
     }
-    None
+
+    // The first byte of all rows that is not listed.
+    fn in_rows(&self) -> Option<usize>
+        ensures { result ≡ lowest (λ k. not (fits_at (k % (self.now.qubits + 1)) (get_or self.now.bytes.now k 0))) (length self.now.bytes.now) }
+    {
+        for i in 0..2 * self.qubits {
+            if let Some(k) = in_row(self.row(i)) {
+                return Some(i * (self.qubits + 1) + k);
+            }
+        }
+        None
+    }
 }
 
 // The first byte that is not listed, from the record's start.
 pub fn bad(outcomes: &[u8], rows: &RowTexts) -> Option<usize>
     ensures { result ≡ first_bad rows.now.qubits (length outcomes.now) (outcomes.now ++ rows.now.bytes.now) }
 {
-    if all_marks(outcomes) & all_in_rows(rows) {
+    if all_marks(outcomes) & rows.all_in_rows() {
         return None;
     }
     if let Some(k) = outcomes.iter().position(|b| !is_mark(*b)) {
         return Some(k);
     }
-    let k = in_rows(rows)?;
+    let k = rows.in_rows()?;
     Some(outcomes.len() + k)
 }

@@ -5,7 +5,6 @@ ghost use Rattle.limits.specs.Limits.{most_qubits};
 ghost use Rattle.pauli.specs.Letters.{x, z};
 ghost use Rattle.pauli.specs.Texts.{letter_of};
 ghost use Rattle.packing.specs.Planes.{plane_size, plane_bit};
-ghost use Rattle.packing.specs.View.{Words};
 ghost use Rattle.words.specs.Bit.{bit};
 ghost use Rattle.read_rows.specs.Parts.Loading.{Turned, SlicedRows, Share, Placed, Loaded};
 
@@ -20,7 +19,7 @@ fn chosen(on: bool, bit: u8) -> u8
 
 // The letters of a row, into one bit of as many bytes.
 fn slice(letters: &[u8], bit: u8, from: usize, xs: &mut [u8; PLANE], zs: &mut [u8; PLANE])
-    requires { (from + length letters.now ≤ plane_size) × (length xs.old ≡ plane_size) × (length zs.old ≡ plane_size) }
+    requires { from + length letters.now ≤ plane_size }
     ensures turned { Turned (λ j. x (letter_of (get_or letters.now j 0))) (length letters.now) bit from xs.old xs.new }
     ensures turned_2 { Turned (λ j. z (letter_of (get_or letters.now j 0))) (length letters.now) bit from zs.old zs.new }
 {
@@ -28,25 +27,6 @@ fn slice(letters: &[u8], bit: u8, from: usize, xs: &mut [u8; PLANE], zs: &mut [u
         xs[from + j] ^= chosen(pauli::has_x(*b), bit);
         zs[from + j] ^= chosen(pauli::has_z(*b), bit);
     }
-}
-
-// The `count` rows from row `first` on.
-fn sliced(rows: &RowTexts, first: usize, count: usize) -> Planes
-    requires { (count ≤ 64) × (first + count ≤ rows.now.qubits + rows.now.qubits) }
-    ensures { SlicedRows rows.now.bytes.now rows.now.qubits first count result }
-{
-    let mut p = Planes {
-        x: [0; PLANE],
-        z: [0; PLANE],
-        signs: 0,
-    };
-    for i in 0..count {
-        let row = rows.row(first + i);
-        let from = limits::MOST_QUBITS * (i / 8);
-        slice(&row[1..], 1 << (i % 8), from, &mut p.x, &mut p.z);
-        p.signs ^= u64::from(row[0] == b'-') << i;
-    }
-    p
 }
 
 // The eight bytes of a qubit, as a word.
@@ -61,19 +41,6 @@ fn word(plane: &[u8; PLANE], j: usize) -> u64
     u64::from_le_bytes(bytes)
 }
 
-// The `count` rows from row `first` on, as word g of every qubit and of the signs.
-fn place(rows: &RowTexts, first: usize, count: usize, g: usize, w: &mut Words)
-    requires { Words w.old × (count ≤ 64) × (g < 4) × (first + count ≤ rows.now.qubits + rows.now.qubits) }
-    ensures { Placed rows.now.bytes.now rows.now.qubits first count g w.old w.new }
-{
-    let p = sliced(rows, first, count);
-    for j in 0..rows.qubits {
-        w[8 * j + g] = word(&p.x, j);
-        w[8 * j + 4 + g] = word(&p.z, j);
-    }
-    w[packing::SIGNS + g] = p.signs;
-}
-
 // How many of n destabilizers, or of n stabilizers, have their bits in word g.
 fn share(n: usize, g: usize) -> usize
     requires { (n ≤ most_qubits) × (g < 4) }
@@ -82,17 +49,51 @@ fn share(n: usize, g: usize) -> usize
     n.saturating_sub(64 * (g % 2)).min(64)
 }
 
-pub fn rows(rows: &RowTexts, w: &mut Words)
-    requires { Words w.old }
-    ensures { Loaded rows.now.bytes.now rows.now.qubits w.new }
-{
-    start_rows::clear(w);
-    let n = rows.qubits;
-    for g in 0..4 {
-        let count = share(n, g);
-        if 0 < count {
-            let first = n * (g / 2) + 64 * (g % 2);
-            place(rows, first, count, g, w);
+impl RowTexts<'_> {
+    // The `count` rows from row `first` on.
+    fn sliced(&self, first: usize, count: usize) -> Planes
+        requires { (count ≤ 64) × (first + count ≤ self.now.qubits + self.now.qubits) }
+        ensures { SlicedRows self.now.bytes.now self.now.qubits first count result }
+    {
+        let mut p = Planes {
+            x: [0; PLANE],
+            z: [0; PLANE],
+            signs: 0,
+        };
+        for i in 0..count {
+            let row = self.row(first + i);
+            let from = limits::MOST_QUBITS * (i / 8);
+            slice(&row[1..], 1 << (i % 8), from, &mut p.x, &mut p.z);
+            p.signs ^= u64::from(row[0] == b'-') << i;
+        }
+        p
+    }
+
+    // The `count` rows from row `first` on, as word g of every qubit and of the signs.
+    fn place(&self, first: usize, count: usize, g: usize, w: &mut Words)
+        requires { (count ≤ 64) × (g < 4) × (first + count ≤ self.now.qubits + self.now.qubits) }
+        ensures { Placed self.now.bytes.now self.now.qubits first count g w.old w.new }
+    {
+        let p = self.sliced(first, count);
+        for j in 0..self.qubits {
+            w[8 * j + g] = word(&p.x, j);
+            w[8 * j + 4 + g] = word(&p.z, j);
+        }
+        w[packing::SIGNS + g] = p.signs;
+    }
+
+    // All 2n rows, and nothing else.
+    pub fn load(&self, w: &mut Words)
+        ensures { Loaded self.now.bytes.now self.now.qubits w.new }
+    {
+        start_rows::clear(w);
+        let n = self.qubits;
+        for g in 0..4 {
+            let count = share(n, g);
+            if 0 < count {
+                let first = n * (g / 2) + 64 * (g % 2);
+                self.place(first, count, g, w);
+            }
         }
     }
 }

@@ -1,11 +1,11 @@
--- `read_rows::load::sliced` meets its contract: the rows passed are in the bytes. Assumes nothing.
+-- `read_rows::RowTexts::sliced` meets its contract: the rows passed are in the bytes. Assumes nothing.
 use Rattle.std.proofs.Common.{refl, ap, ℕ, List, get_or, eqb, rules}
 use Rattle.pauli.specs.Letters.{x, z}
 use Rattle.pauli.specs.Texts.{letter_of}
 use Rattle.read_rows.proofs.Texts.{letter_count, letter_byte_at}
 use Rattle.read_rows.proofs.Stacks.{built_none, built_more}
 use Rattle.read_rows.proofs.Slices.{turned_count, sliced_none, sliced_more}
-use Rattle.read_rows.proofs.load.sliced.Goals as goal
+use Rattle.read_rows.proofs.RowTexts.sliced.Goals as goal
 
 pub loop-i-init : goal.loop-i-init
 loop-i-init c = record { xs = sliced_none _ _; zs = sliced_none _ _; signs = built_none _ }
@@ -13,7 +13,7 @@ loop-i-init c = record { xs = sliced_none _ _; zs = sliced_none _ _; signs = bui
 pub loop-i-preserved : goal.loop-i-preserved
 loop-i-preserved c =
     let l = c.loop-i in
-    let n = c.args.rows.now.qubits in
+    let n = c.args.self.now.qubits in
     let row = c.row-row in
     let count = letter_count row.result.now _ n row.ensures.text row.ensures.size in
     let at = letter_byte_at row.result.now _ n row.ensures.text row.ensures.size in

@@ -1,14 +1,14 @@
--- `read_rows::load::place` meets its contract: the words of the qubits passed are stored. Assumes nothing.
+-- `read_rows::RowTexts::place` meets its contract: the words of the qubits passed are stored. Assumes nothing.
 use Rattle.std.proofs.Common.{arith, rules}
 use Rattle.read_rows.proofs.Slices.{built_word}
 use Rattle.read_rows.proofs.Placing.{filled_more}
-use Rattle.read_rows.proofs.load.place.Goals as goal
+use Rattle.read_rows.proofs.RowTexts.place.Goals as goal
 
 pub loop-j-preserved : goal.loop-j-preserved
 loop-j-preserved c =
     let l = c.loop-j in
     let e = c.args in
-    let r = e.rows.now in
+    let r = e.self.now in
     let p = c.sliced-p in
     let u = c.word in
     let v = c.word-in-loop-j in
