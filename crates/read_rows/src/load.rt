@@ -18,14 +18,15 @@ fn chosen(on: bool, bit: u8) -> u8
 }
 
 // The letters of a row, into one bit of as many bytes.
-fn slice(letters: &[u8], bit: u8, from: usize, xs: &mut [u8; PLANE], zs: &mut [u8; PLANE])
+fn slice(letters: &[u8], bit: u8, from: usize, p: &mut Planes)
     requires { from + length letters.now ≤ plane_size }
-    ensures turned { Turned (λ j. x (letter_of (get_or letters.now j 0))) (length letters.now) bit from xs.old xs.new }
-    ensures turned_2 { Turned (λ j. z (letter_of (get_or letters.now j 0))) (length letters.now) bit from zs.old zs.new }
+    ensures x_turned { Turned (λ j. x (letter_of (get_or letters.now j 0))) (length letters.now) bit from p.old.x p.new.x }
+    ensures z_turned { Turned (λ j. z (letter_of (get_or letters.now j 0))) (length letters.now) bit from p.old.z p.new.z }
+    ensures signs_kept { p.new.signs ≡ p.old.signs }
 {
     for (j, b) in letters.iter().enumerate() {
-        xs[from + j] ^= chosen(pauli::has_x(*b), bit);
-        zs[from + j] ^= chosen(pauli::has_z(*b), bit);
+        p.x[from + j] ^= chosen(pauli::has_x(*b), bit);
+        p.z[from + j] ^= chosen(pauli::has_z(*b), bit);
     }
 }
 
@@ -63,7 +64,7 @@ impl RowTexts<'_> {
         for i in 0..count {
             let row = self.row(first + i);
             let from = limits::MOST_QUBITS * (i / 8);
-            slice(&row[1..], 1 << (i % 8), from, &mut p.x, &mut p.z);
+            slice(&row[1..], 1 << (i % 8), from, &mut p);
             p.signs ^= u64::from(row[0] == b'-') << i;
         }
         p

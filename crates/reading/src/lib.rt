@@ -32,7 +32,7 @@ fn find(bytes: &[u8], words: &mut Words) -> Result<Last, Refusal>
     if let Some(place) = read_rows::bytes::bad(&bytes[last.start..first], &rows) {
         return Err(Refusal::BadByte(place));
     }
-    read_rows::load::rows(&rows, words);
+    rows.load(words);
     if let Some(row) = pairing::unpaired(&rows, words) {
         return Err(Refusal::NotPaired(row));
     }

@@ -16,10 +16,10 @@ pub returns-in-Some-unpaired : goal.returns-in-Some-unpaired
 returns-in-Some-unpaired c =
     let s = c.args.bytes.now in
     let st = stands s c.in_ok-last.last (search rules) in
-    record { answer = sym (not_paired s c.in_ok-last.last st c.in_default.ensures _ c.rows.ensures c.in-Some-unpaired.row c.in-Some-unpaired.ensures); besides = tt }
+    record { answer = sym (not_paired s c.in_ok-last.last st c.in_default.ensures _ c.load.ensures c.in-Some-unpaired.row c.in-Some-unpaired.ensures); besides = tt }
 
 pub returns : goal.returns
 returns c =
     let s = c.args.bytes.now in
     let st = stands s c.in_ok-last.last (search rules) in
-    record { answer = accepts s c.in_ok-last.last st c.in_default.ensures _ c.rows.ensures c.in_default-unpaired.ensures; besides = (st.within, c.rows.ensures.only) }
+    record { answer = accepts s c.in_ok-last.last st c.in_default.ensures _ c.load.ensures c.in_default-unpaired.ensures; besides = (st.within, c.load.ensures.only) }
