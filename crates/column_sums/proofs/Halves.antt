@@ -18,7 +18,7 @@ use Rattle.packing.specs.View.{row_count, letter_at, Holds}
 use Rattle.groups.specs.declared.Group.{Group}
 use Rattle.groups.specs.Parts.Rows.{row_bit, All}
 use Rattle.read_rows.specs.Parts.Loading.{column_of}
-use Rattle.column_sums.specs.Parts.Sums.{told_at, spelled_number, letter_numbered, tells, Sums, Picks, Against}
+use Rattle.column_sums.specs.Parts.Sums.{told_at, spelled_number, letter_numbered, tells, Summed, Picks, Against}
 use Rattle.column_sums.proofs.Tables.{told_here, told_other}
 use Rattle.column_sums.proofs.Picking.{number_small}
 
@@ -66,7 +66,7 @@ tells_letters w half j a b s =
 -- ---- a row
 
 module _ (letters : List ℕ) (n half : ℕ) (w : List ℕ) (t : List Group) (p : List ℕ) (enough : n ≤ half + half) (close : half + half ≤ n + 1) (most : n ≤ most_qubits) (h : Holds n w)
-    (a : Sums w half (16 * half) t) (b : Picks letters half p) where
+    (a : Summed w half (16 * half) t) (b : Picks letters half p) where
   abbrev spelled : ℕ → Letter
   spelled j = letter_of (get_or letters j 0)
 

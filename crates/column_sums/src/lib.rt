@@ -8,7 +8,7 @@ ghost use Rattle.pauli.specs.Letters.{differ};
 ghost use Rattle.pauli.specs.Rows.{odd_number};
 ghost use Rattle.packing.specs.View.{letter_at, Holds};
 ghost use Rattle.groups.specs.Parts.Rows.{row_bit, All};
-ghost use Rattle.column_sums.specs.Parts.Sums.{half_most, sum_count, told_at, spelled_number, letter_numbered, Sums, Picks, Against};
+ghost use Rattle.column_sums.specs.Parts.Sums.{half_most, told_at, spelled_number, letter_numbered, Summed, Picks, Against};
 
 use groups::Group;
 use packing::Words;
@@ -35,33 +35,6 @@ fn differing(w: &Words, j: usize, e: usize) -> Group
     by_x ^ by_z
 }
 
-// The sixteen sums of qubits j and half + j.
-fn fill(w: &Words, half: usize, j: usize, t: &mut [Group; SUMS])
-    requires { (half ≤ half_most) × (j < half) × Sums w.now half (16 * j) t.old }
-    ensures { Sums w.now half (16 * (j + 1)) t.new }
-{
-    let x = differing(w, j, 1);
-    let z = differing(w, j, 2);
-    let y = differing(w, j, 3);
-    for e in 0..4 {
-        let s = differing(w, half + j, e);
-        let o = 16 * j + 4 * e;
-        t[o] = s;
-        t[o + 1] = x ^ s;
-        t[o + 2] = z ^ s;
-        t[o + 3] = y ^ s;
-    }
-}
-
-fn sums(w: &Words, half: usize, t: &mut [Group; SUMS])
-    requires { (half ≤ half_most) × (length t.old ≡ sum_count) }
-    ensures { Sums w.now half (16 * half) t.new }
-{
-    for j in 0..half {
-        fill(w, half, j, t);
-    }
-}
-
 // The number of the letter that a byte spells.
 fn number(b: u8) -> u8
     ensures { result ≡ spelled_number b }
@@ -69,32 +42,69 @@ fn number(b: u8) -> u8
     u8::from(pauli::has_x(b)) + 2 * u8::from(pauli::has_z(b))
 }
 
-// Which of the sixteen sums of each two qubits the letters of a row pick.
-fn picks(letters: &[u8], half: usize) -> [u8; HALF]
-    requires { (half ≤ half_most) × (half ≤ length letters.now) × (length letters.now ≤ half + half) }
-    ensures { Picks letters.now half result }
-{
-    let mut p = [0u8; HALF];
-    let (low, high) = letters.split_at(half);
-    for (j, b) in low.iter().enumerate() {
-        p[j] = number(*b);
-    }
-    for (k, b) in high.iter().enumerate() {
-        p[k] += 4 * number(*b);
-    }
-    p
+// Qubit j is taken together with qubit half + j: of the two there are sixteen sums, for each letter of the one and each of the other.
+#[derive(Drop)]
+struct Sums {
+    half: usize,
+    table: [Group; SUMS],
+    ghost most: { half ≤ half_most },
 }
 
-// The sum of the sums picked.
-fn picked(t: &[Group; SUMS], p: &[u8; HALF], half: usize) -> Group
-    requires { (half ≤ half_most) × ((j : ℕ) → j < half → get_or p.now j 0 < 16) }
-    ensures { All (λ s. row_bit result s ≡ odd_number (λ j. told_at t.now (16 * j + get_or p.now j 0) s) half) }
-{
-    let mut sum = Group::all(0);
-    for j in 0..half {
-        sum = sum ^ t[16 * j + usize::from(p[j])];
+impl Sums {
+    // The sixteen sums of qubits j and half + j.
+    fn put(&mut self, w: &Words, j: usize)
+        requires { (j < self.old.half) × Summed w.now self.old.half (16 * j) self.old.table }
+        ensures half { self.new.half ≡ self.old.half }
+        ensures table { Summed w.now self.old.half (16 * (j + 1)) self.new.table }
+    {
+        let x = differing(w, j, 1);
+        let z = differing(w, j, 2);
+        let y = differing(w, j, 3);
+        let other = self.half + j;
+        for e in 0..4 {
+            let s = differing(w, other, e);
+            let o = 16 * j + 4 * e;
+            self.table[o] = s;
+            self.table[o + 1] = x ^ s;
+            self.table[o + 2] = z ^ s;
+            self.table[o + 3] = y ^ s;
+        }
     }
-    sum
+
+    fn fill(&mut self, w: &Words)
+        ensures half { self.new.half ≡ self.old.half }
+        ensures table { Summed w.now self.new.half (16 * self.new.half) self.new.table }
+    {
+        for j in 0..self.half {
+            self.put(w, j);
+        }
+    }
+
+    // Which of the sixteen sums of each two qubits the letters of a row pick, lent so that none of it is copied.
+    fn pick(&self, letters: &[u8], p: &mut [u8; HALF])
+        requires { (self.now.half ≤ length letters.now) × (length letters.now ≤ self.now.half + self.now.half) }
+        ensures { Picks letters.now self.now.half p.new }
+    {
+        let (low, high) = letters.split_at(self.half);
+        for (j, b) in low.iter().enumerate() {
+            p[j] = number(*b);
+        }
+        for (k, b) in high.iter().enumerate() {
+            p[k] += 4 * number(*b);
+        }
+    }
+
+    // The sum of the sums picked.
+    fn picked(&self, p: &[u8; HALF]) -> Group
+        requires { (j : ℕ) → j < self.now.half → get_or p.now j 0 < 16 }
+        ensures { All (λ s. row_bit result s ≡ odd_number (λ j. told_at self.now.table (16 * j + get_or p.now j 0) s) self.now.half) }
+    {
+        let mut sum = Group::all(0);
+        for j in 0..self.half {
+            sum = sum ^ self.table[16 * j + usize::from(p[j])];
+        }
+        sum
+    }
 }
 
 // Of each of the 2n rows, which packed rows anticommute with it.
@@ -102,14 +112,17 @@ pub fn against(rows: &RowTexts, w: &Words) -> [Group; ROWS]
     requires { Holds rows.now.qubits w.now }
     ensures { Against rows.now.bytes.now rows.now.qubits w.now (rows.now.qubits + rows.now.qubits) result }
 {
-    let half = rows.qubits.div_ceil(2);
-    let mut t = [Group::all(0); SUMS];
-    sums(w, half, &mut t);
+    let mut sums = Sums {
+        half: rows.qubits.div_ceil(2),
+        table: [Group::all(0); SUMS],
+    };
+    sums.fill(w);
+    let mut p = [0u8; HALF];
     let mut found = [Group::all(0); ROWS];
     for i in 0..2 * rows.qubits {
         let row = rows.row(i);
-        let p = picks(&row[1..], half);
-        found[i] = picked(&t, &p, half);
+        sums.pick(&row[1..], &mut p);
+        found[i] = sums.picked(&p);
     }
     found
 }

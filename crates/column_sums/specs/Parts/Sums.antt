@@ -37,7 +37,7 @@ abbrev pub tells : List ℕ → ℕ → ℕ → ℕ → Bool
 tells w half k s = differ (letter_numbered (k % 4)) (letter_at w s (k / 16)) ⊕ differ (letter_numbered (k / 4 % 4)) (letter_at w s (half + k / 16))
 
 -- the first m sums
-pub record Sums (w : List ℕ) (half m : ℕ) (t : List Group) : Type 0 where
+pub record Summed (w : List ℕ) (half m : ℕ) (t : List Group) : Type 0 where
   pub size : length t ≡ sum_count
   pub sums : (k s : ℕ) → k < m → s < row_count → told_at t k s ≡ tells w half k s
 
