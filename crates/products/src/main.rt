@@ -4,6 +4,7 @@
 use std::io;
 use std::io::Read;
 
+// As in `tool_product`, which calls the public face; here it is the crate below.
 fn multiply(rt: &impl Print, first: &[u8], second: &[u8]) -> io::Result<()> {
     let mut out = [0u8; limits::LONGEST_ROW];
     match product::product(first, second, &mut out) {
