@@ -1,3 +1,2 @@
 pub mod View
-pub mod Planes
 pub mod Parts

@@ -24,7 +24,7 @@ pub struct Packed {
 // A byte for each qubit and each eight of 64 rows: that of rows 8r to 8r + 7 and of qubit j is byte MOST_QUBITS r + j.
 pub const PLANE: usize = 8 * limits::MOST_QUBITS;
 
-// 64 rows in such bytes, of their x bits and of their z bits, and a bit for each sign: specs/Planes.antt.
+// 64 rows in such bytes, of their x bits and of their z bits, and a bit for each sign: specs/Parts/Planes.antt.
 #[derive(Drop)]
 pub struct Planes {
     pub x: [u8; PLANE],

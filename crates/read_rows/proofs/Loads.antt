@@ -18,7 +18,7 @@ use Rattle.packing.proofs.Views.{guarded, row_eq}
 use Rattle.words.specs.Bit.{bit}
 use Rattle.words.proofs.BitLaws.{bit-zero}
 use Rattle.read_rows.specs.Parts.Loading.{column_of, sign_of, Placed, Share, in_record, Loaded}
-use Rattle.read_rows.specs.Texts.{text_of}
+use Rattle.read_rows.specs.Parts.Texts.{text_of}
 
 -- ---- where the rows of word g begin
 

@@ -19,7 +19,7 @@ use Rattle.pauli.proofs.LetterLaws.{both}
 use Rattle.records.specs.Reading.{is_mark, byte_fits, first_bad}
 use Rattle.read_rows.specs.Parts.Loading.{NoneWhere}
 use Rattle.std.specs.List.{position}
-use Rattle.read_rows.specs.Texts.{text_of}
+use Rattle.read_rows.specs.Parts.Texts.{text_of}
 use Rattle.read_rows.proofs.Texts.{row_inside, text_byte}
 
 found : (f : ℕ → Bool) (n p : ℕ) → lowest f n ≡ Some p → Lowest f n p

@@ -20,7 +20,7 @@ use Rattle.words.proofs.Bytes.{from_bytes_bit}
 use Rattle.std.specs.Int.{w64, from_le_bytes}
 use Rattle.words.proofs.BitLaws.{bit-xor, bit-zero, bit-pow}
 use Rattle.read_rows.specs.Parts.Loading.{Built, Turned, Sliced}
-use Rattle.packing.specs.Planes.{byte_place, plane_size, plane_bit}
+use Rattle.packing.specs.Parts.Planes.{byte_place, plane_size, plane_bit}
 use Rattle.read_rows.proofs.Stacks.{next_bit, zeros}
 
 -- ---- a word of eight bytes

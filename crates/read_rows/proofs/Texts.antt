@@ -7,7 +7,7 @@ use native.Mathlib.Numerals.{one-add}
 use native.Mathlib.Omega.{arith}
 use lib.ListN.{length, get_or, take, drop, length-drop}
 use lib.Seq.{length-take-le, get_or-take, get_or-drop}
-use Rattle.read_rows.specs.Texts.{text_of}
+use Rattle.read_rows.specs.Parts.Texts.{text_of}
 
 -- row i lies within the 2n rows
 pub row_inside : (n i : ℕ) → i < n + n → i * (n + 1) + (n + 1) ≤ 2 * (n * (n + 1))

@@ -3,7 +3,7 @@
 
 ghost use Rattle.std.specs.Prelude.{◌≡◌, ◌+◌, ◌*◌, ◌≤◌, ◌<◌, length};
 ghost use Rattle.limits.specs.Limits.{most_qubits};
-ghost use Rattle.read_rows.specs.Texts.{text_of};
+ghost use Rattle.read_rows.specs.Parts.Texts.{text_of};
 
 pub mod bytes;
 pub mod load;

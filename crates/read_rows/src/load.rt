@@ -4,7 +4,7 @@ ghost use Rattle.std.specs.Prelude.{cond, ◌≡◌, ℕ, ◌+◌, ◌*◌, ◌/
 ghost use Rattle.limits.specs.Limits.{most_qubits};
 ghost use Rattle.pauli.specs.Letters.{x, z};
 ghost use Rattle.pauli.specs.Texts.{letter_of};
-ghost use Rattle.packing.specs.Planes.{plane_size, plane_bit};
+ghost use Rattle.packing.specs.Parts.Planes.{plane_size, plane_bit};
 ghost use Rattle.words.specs.Bit.{bit};
 ghost use Rattle.read_rows.specs.Parts.Loading.{Turned, SlicedRows, Share, Placed, Loaded};
 

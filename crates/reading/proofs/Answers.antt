@@ -23,7 +23,7 @@ use Rattle.packing.proofs.Views.{all_rows}
 use Rattle.records.specs.Record.{to_rows}
 use Rattle.records.specs.Reading.{Read, read_of, reading, ends_in_record, second_distance, qubits_in, outcome_count, last_record, byte_fits, first_bad, first_wrong, row_in, rows_in}
 use Rattle.records.proofs.Ending.{ending}
-use Rattle.read_rows.specs.Texts.{text_of}
+use Rattle.read_rows.specs.Parts.Texts.{text_of}
 use Rattle.read_rows.specs.Parts.Loading.{in_record, Loaded}
 use Rattle.read_rows.proofs.Texts.{row_inside}
 use Rattle.reading.specs.declared.Last.{Last}

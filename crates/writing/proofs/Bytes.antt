@@ -13,7 +13,7 @@ use lib.Seq.{get_or-set_same, get_or-set_other}
 use borrow.Author.Tests.{eq-eqb, ne_eqb}
 use Rattle.words.specs.Bit.{bit}
 use Rattle.limits.specs.Limits.{most_qubits}
-use Rattle.packing.specs.Planes.{byte_place, plane_size}
+use Rattle.packing.specs.Parts.Planes.{byte_place, plane_size}
 use Rattle.words.proofs.Bytes.{byte_bit}
 use Rattle.writing.specs.Parts.Planes.{byte_of, Filled, PlaneOf}
 

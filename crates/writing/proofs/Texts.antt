@@ -18,7 +18,7 @@ use Rattle.records.proofs.Joined.{listed_more, listed_split, joined_append, join
 use Rattle.records.proofs.Lengths.{length-row_text, length-joined}
 use Rattle.writing.proofs.Placing.{placed}
 use Rattle.writing.specs.Parts.Texts.{texts_from}
-use Rattle.packing.specs.Planes.{plane_letter}
+use Rattle.packing.specs.Parts.Planes.{plane_letter}
 use Rattle.packing.specs.declared.Planes.{Planes}
 use Rattle.writing.specs.Parts.Planes.{PlanesOf, plane_row}
 use Rattle.writing.proofs.Placing.{set_placed, then_placed}

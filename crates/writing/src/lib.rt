@@ -7,7 +7,7 @@ ghost use Rattle.std.specs.Prelude.{◌≡◌, ◌+◌, ◌*◌, ◌≤◌, ◌<
 ghost use Rattle.limits.specs.Limits.{most_qubits, most_operations};
 ghost use Rattle.answers.specs.Verdict.{over};
 ghost use Rattle.pauli.specs.Texts.{letter_byte, row_text};
-ghost use Rattle.packing.specs.Planes.{plane_size, plane_letter};
+ghost use Rattle.packing.specs.Parts.Planes.{plane_size, plane_letter};
 ghost use Rattle.packing.specs.View.{row_count, rows_of};
 ghost use Rattle.records.specs.Record.{trailer, record_with, record_length};
 ghost use Rattle.writing.specs.Parts.Texts.{texts_from};

@@ -6,9 +6,9 @@ use Rattle.pauli.specs.Letters.{Letter, x, z}
 use Rattle.pauli.specs.Texts.{spelled}
 use Rattle.packing.specs.View.{row_count, sign_words, Words, row_at, Holds}
 use Rattle.words.specs.Bit.{bit}
-use Rattle.packing.specs.Planes.{plane_size, plane_bit}
+use Rattle.packing.specs.Parts.Planes.{plane_size, plane_bit}
 use Rattle.packing.specs.declared.Planes.{Planes}
-use Rattle.read_rows.specs.Texts.{text_of}
+use Rattle.read_rows.specs.Parts.Texts.{text_of}
 
 -- where the look is true, no number below m passes the test
 abbrev pub NoneWhere : Bool → (ℕ → Bool) → ℕ → Type 0

@@ -6,7 +6,7 @@ use native.Mathlib.Omega.{arith}
 use lib.ListN.{get_or}
 use Rattle.pauli.specs.Letters.{letter}
 use Rattle.pauli.specs.Texts.{letter_byte}
-use Rattle.packing.specs.Planes.{byte_place}
+use Rattle.packing.specs.Parts.Planes.{byte_place}
 use Rattle.writing.proofs.Bytes.{has_bit}
 use Rattle.writing.proofs.letter_in.Goals as goal
 

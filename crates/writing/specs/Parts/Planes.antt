@@ -3,7 +3,7 @@ use Rattle.std.specs.Prelude.{List, ◌≡◌, ℕ, ◌+◌, ◌*◌, ◌<◌, l
 use Rattle.std.specs.Int.{w64, to_le_bytes}
 use Rattle.pauli.specs.Rows.{Row}
 use Rattle.words.specs.Bit.{bit}
-use Rattle.packing.specs.Planes.{byte_place, plane_size, plane_bit, plane_letter}
+use Rattle.packing.specs.Parts.Planes.{byte_place, plane_size, plane_bit, plane_letter}
 use Rattle.packing.specs.View.{sign_words}
 use Rattle.packing.specs.declared.Planes.{Planes}
 

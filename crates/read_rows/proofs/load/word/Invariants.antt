@@ -1,7 +1,7 @@
 use mathlib.Core.Path.{◌≡◌}
 use Prim.Native.Nat.{ℕ, ◌<◌}
 use lib.ListN.{length, get_or}
-use Rattle.packing.specs.Planes.{byte_place}
+use Rattle.packing.specs.Parts.Planes.{byte_place}
 use Rattle.read_rows.proofs.load.word.Given as goal
 
 abbrev pub invariant-loop-r : goal.invariant-loop-r
