@@ -1,16 +1,17 @@
 -- The steps of CX and of CZ, put together. Assumes nothing.
-use mathlib.Core.Path.{◌≡◌, refl, sym, ap, ap₂, ◌∙◌}
+use mathlib.Core.Path.{◌≡◌, sym, ap, ap₂, ◌∙◌}
 use mathlib.Core.Bool.{Bool, true, false, ◌&&◌, cond}
 use mathlib.Core.List.{List, [], ◌∷◌}
 use mathlib.Core.Logic.{◌≢◌}
 use Prim.Native.Nat.{ℕ, ◌+◌, ◌*◌, ◌%◌, ◌≤◌, ◌<◌}
 use native.Mathlib.Omega.{arith}
-use lib.Dec.{eqb}
-use borrow.Author.Tests.{eqb-true, eqb-false}
+use Rattle.std.proofs.lemmas.Bool.Decides.{nat_tests}
 use Rattle.limits.specs.Limits.{most_qubits}
 use Rattle.pauli.specs.Letters.{letter, ◌⊕◌}
 use Rattle.pauli.proofs.LetterLaws.{x_letter, z_letter}
 use Rattle.pauli.proofs.Cases.{tested, bit as bool}
+use denote.Enum.Bare.{sameb}
+use Rattle.clifford.specs.contracts.Two.{the_type}
 use Rattle.clifford.specs.declared.Two.{Two}
 use Rattle.clifford.specs.declared.Two.TheVariants.{Cx, Cz}
 use Rattle.clifford.specs.declared.Gate.TheVariants.{Two as two}
@@ -30,27 +31,22 @@ module _ (g : Two) (a b : ℕ) (w w' : List ℕ) (lw : Words w')
     (at_b : (s : ℕ) → s < row_count → letter_at w' s b ≡ new_b g (letter_at w s a) (letter_at w s b))
     (others : (s j : ℕ) → s < row_count → j < most_qubits → j ≢ a → j ≢ b → letter_at w' s j ≡ letter_at w s j) where
   letters : (s j : ℕ) → s < row_count → j < most_qubits → letter_at w' s j ≡ new (two g a b) (letter_at w s) j
-  letters s j l jl = go (eqb j a) refl (eqb j b) refl
-    where
-      go : (p : Bool) → eqb j a ≡ p → (q : Bool) → eqb j b ≡ q
-          → letter_at w' s j ≡ cond p (new_a g (letter_at w s a) (letter_at w s b)) (cond q (new_b g (letter_at w s a) (letter_at w s b)) (letter_at w s j))
-      go true e q f = ap (letter_at w' s) (eqb-true j a e) ∙ at_a s l
-      go false e true f = ap (letter_at w' s) (eqb-true j b f) ∙ at_b s l
-      go false e false f = others s j l jl (eqb-false j a e) (eqb-false j b f)
+  letters s j l jl = grind (arith, nat_tests, at_a s l, at_b s l, others s j l jl)
 
   pub two_gate : Gated (two g a b) w w'
   two_gate = gated_by (two g a b) w w' lw signs letters
+
+-- whether two gates are the same, as the code's `==` tests it
+abbrev pub same : Two → Two → Bool
+same = sameb the_type
 
 -- CX: the sign turns where x of a and z of b are set and the other bits are the same; CZ: where both x are set and both z differ
 abbrev Turned : Two → Bool → Type 0
 Turned g c = (s u v p q : Bool) → s ⊕ ((u && cond c q p) && ((v ⊕ cond c p q) ⊕ c)) ≡ s ⊕ turns₂ g (letter u v) (letter p q)
 
-abbrev kind : Bool → Two
-kind c = cond c Cx Cz
-
-turned : (c : Bool) → Turned (kind c) c
-turned true = tested (bool ∷ bool ∷ bool ∷ bool ∷ bool ∷ []) bool _ _ tt
-turned false = tested (bool ∷ bool ∷ bool ∷ bool ∷ bool ∷ []) bool _ _ tt
+turned : (g : Two) → Turned g (same g Cx)
+turned Cx = tested (bool ∷ bool ∷ bool ∷ bool ∷ bool ∷ []) bool _ _ tt
+turned Cz = tested (bool ∷ bool ∷ bool ∷ bool ∷ bool ∷ []) bool _ _ tt
 
 module _ {w w1 w2 w3 : List ℕ} (a b y : ℕ) (al : a < most_qubits) (bl : b < most_qubits) (d : a ≢ b) where
   cx_gate : ((s : ℕ) → bit (s % 64) y ≡ true) → Changed (8 * a + 4) (λ s. bit_at w (8 * a + 4) s ⊕ bit_at w (8 * b + 4) s) w w1
@@ -61,7 +57,7 @@ module _ {w w1 w2 w3 : List ℕ} (a b y : ℕ) (al : a < most_qubits) (bl : b < 
       (λ s l. c3.bits s l
       ∙ ap₂ (λ (m c : Bool). m ⊕ ((bit_at w (8 * a) s && bit_at w (8 * b + 4) s) && ((bit_at w (8 * a + 4) s ⊕ bit_at w (8 * b) s) ⊕ c)))
       (elsewhere c2 sign_words s l (λ h. omega arith) (λ h. omega arith) ∙ elsewhere c1 sign_words s l (λ h. omega arith) (λ h. omega arith)) (ey s)
-      ∙ turned true (bit_at w sign_words s) (bit_at w (8 * a) s) (bit_at w (8 * a + 4) s) (bit_at w (8 * b) s) (bit_at w (8 * b + 4) s))
+      ∙ turned Cx (bit_at w sign_words s) (bit_at w (8 * a) s) (bit_at w (8 * a + 4) s) (bit_at w (8 * b) s) (bit_at w (8 * b + 4) s))
       (λ s l. ap₂ letter (x_kept a s l al (λ e. d e))
       (last (8 * a + 4) s l (omega arith) ∙ elsewhere c2 (8 * a + 4) s l (λ h. omega arith) (λ h. omega arith) ∙ c1.bits s l)
       ∙ simp (x_letter, z_letter))
@@ -93,7 +89,7 @@ module _ {w w1 w2 w3 : List ℕ} (a b y : ℕ) (al : a < most_qubits) (bl : b < 
       (λ s l. c3.bits s l
       ∙ ap₂ (λ (m c : Bool). m ⊕ ((bit_at w (8 * a) s && bit_at w (8 * b) s) && ((bit_at w (8 * a + 4) s ⊕ bit_at w (8 * b + 4) s) ⊕ c)))
       (elsewhere c2 sign_words s l (λ h. omega arith) (λ h. omega arith) ∙ elsewhere c1 sign_words s l (λ h. omega arith) (λ h. omega arith)) (ey s)
-      ∙ turned false (bit_at w sign_words s) (bit_at w (8 * a) s) (bit_at w (8 * a + 4) s) (bit_at w (8 * b) s) (bit_at w (8 * b + 4) s))
+      ∙ turned Cz (bit_at w sign_words s) (bit_at w (8 * a) s) (bit_at w (8 * a + 4) s) (bit_at w (8 * b) s) (bit_at w (8 * b + 4) s))
       (λ s l. ap₂ letter (x_kept a s l al)
       (last (8 * a + 4) s l (omega arith) ∙ elsewhere c2 (8 * a + 4) s l (λ h. omega arith) (λ h. omega arith) ∙ c1.bits s l)
       ∙ simp (x_letter, z_letter))
@@ -115,9 +111,15 @@ module _ {w w1 w2 w3 : List ℕ} (a b y : ℕ) (al : a < most_qubits) (bl : b < 
       z_first j s l jl e = elsewhere c1 (8 * j + 4) s l (λ h. omega arith) (λ h. omega arith)
 
   -- either of them, by the words that are picked
-  pub two_picked : (c : Bool) (p q : ℕ) → p ≡ cond c (8 * b + 4) (8 * b) → q ≡ cond c (8 * b) (8 * b + 4) → ((s : ℕ) → bit (s % 64) y ≡ c)
+  pub two_picked : (g : Two) (c : Bool) → c ≡ same g Cx → (p q : ℕ) → p ≡ cond c (8 * b + 4) (8 * b) → q ≡ cond c (8 * b) (8 * b + 4) → ((s : ℕ) → bit (s % 64) y ≡ c)
       → Changed (8 * a + 4) (λ s. bit_at w (8 * a + 4) s ⊕ bit_at w p s) w w1
       → Changed q (λ s. bit_at w1 q s ⊕ bit_at w1 (8 * a) s) w1 w2
-      → Changed sign_words (λ s. bit_at w2 sign_words s ⊕ two_turns w (8 * a) (8 * a + 4) p q y s) w2 w3 → Gated (two (cond c Cx Cz) a b) w w3
-  two_picked true p q ep eq ey c1 c2 c3 = cx_gate ey (rw ep at c1) (rw eq at c2) (rw (ep, eq) at c3)
-  two_picked false p q ep eq ey c1 c2 c3 = cz_gate ey (rw ep at c1) (rw eq at c2) (rw (ep, eq) at c3)
+      → Changed sign_words (λ s. bit_at w2 sign_words s ⊕ two_turns w (8 * a) (8 * a + 4) p q y s) w2 w3 → Gated (two g a b) w w3
+  two_picked Cx c e p q ep eq ey c1 c2 c3 =
+      let f = ep ∙ ap (λ (u : Bool). cond u (8 * b + 4) (8 * b)) e in
+      let h = eq ∙ ap (λ (u : Bool). cond u (8 * b) (8 * b + 4)) e in
+      cx_gate (λ s. ey s ∙ e) (rw f at c1) (rw h at c2) (rw (f, h) at c3)
+  two_picked Cz c e p q ep eq ey c1 c2 c3 =
+      let f = ep ∙ ap (λ (u : Bool). cond u (8 * b + 4) (8 * b)) e in
+      let h = eq ∙ ap (λ (u : Bool). cond u (8 * b) (8 * b + 4)) e in
+      cz_gate (λ s. ey s ∙ e) (rw f at c1) (rw h at c2) (rw (f, h) at c3)

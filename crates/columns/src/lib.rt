@@ -2,10 +2,9 @@
 // one group, and leaves: values that two stored groups share would keep the compiler from using vectors.
 #![tactic(auto)]
 
-ghost use Rattle.std.specs.Prelude.{cond, ◌≡◌, ◌+◌, ◌<◌, ◌≤◌};
+ghost use Rattle.std.specs.Prelude.{◌≡◌, ◌+◌, ◌<◌, ◌≤◌};
 ghost use Rattle.limits.specs.Limits.{most_qubits};
 ghost use Rattle.clifford.specs.Gates.{Fits};
-ghost use Rattle.clifford.specs.Parts.ByLetter.{one_of};
 ghost use Rattle.pauli.specs.Letters.{◌⊕◌};
 ghost use Rattle.packing.specs.View.{sign_words, word_count, Words, bit_at};
 ghost use Rattle.packing.specs.Parts.Changes.{Changed};
@@ -13,7 +12,7 @@ ghost use Rattle.groups.specs.Parts.Rows.{row_bit, All};
 ghost use Rattle.columns.specs.Parts.Gated.{Gated};
 ghost use Rattle.columns.specs.Parts.Picked.{Shuffled, one_turns, two_turns};
 
-use clifford::{Gate, Two};
+use clifford::{Gate, One, Two};
 use groups::Group;
 use packing::Words;
 use std::hint::select_unpredictable;
@@ -73,33 +72,38 @@ fn shuffle(w: &mut Words, xi: usize, fx: usize, fz: usize, added: u64)
     sum.store(w, xi + 4);
 }
 
-// The gate on one qubit that has this letter. Which it is decides no jump of the processor's: the letter picks indices.
-pub fn one(w: &mut Words, letter: usize, a: usize)
+// A gate on one qubit. Which it is decides no jump of the processor's: the gate picks indices.
+pub fn one(w: &mut Words, gate: One, a: usize)
     requires { a < most_qubits }
-    ensures { Gated (Gate.One (one_of letter) a) w.old w.new }
+    ensures { Gated (Gate.One gate a) w.old w.new }
 {
     let xi = 8 * a;
     let zi = 8 * a + 4;
-    let pa = select_unpredictable(letter == 88, zi, xi);
-    let pb = select_unpredictable((letter == 72) | (letter == 83) | (letter == 88), zi, xi);
-    let y = select_unpredictable(letter == 89, u64::MAX, 0);
-    let fx = select_unpredictable(letter == 72, zi, xi);
-    let fz = select_unpredictable(letter == 72, xi, zi);
-    let added = select_unpredictable(letter == 83, u64::MAX, 0);
-    let turned = one_turns(w, pa, pb, zi, y);
+    let h = gate == One::H;
+    let s = gate == One::S;
+    let x = gate == One::PauliX;
+    let y = gate == One::PauliY;
+    let pa = select_unpredictable(x, zi, xi);
+    let pb = select_unpredictable(h | s | x, zi, xi);
+    let ys = select_unpredictable(y, u64::MAX, 0);
+    let fx = select_unpredictable(h, zi, xi);
+    let fz = select_unpredictable(h, xi, zi);
+    let added = select_unpredictable(s, u64::MAX, 0);
+    let turned = one_turns(w, pa, pb, zi, ys);
     turn(w, turned);
     shuffle(w, xi, fx, fz, added);
 }
 
-// CX, or else CZ, which is CX with the bits of b exchanged. Which it is decides no jump of the processor's.
-pub fn two(w: &mut Words, cx: bool, a: usize, b: usize)
+// A gate on two qubits: CX, or CZ, which is CX with the bits of b exchanged. Which it is decides no jump of the processor's.
+pub fn two(w: &mut Words, gate: Two, a: usize, b: usize)
     requires { (a < most_qubits) × (b < most_qubits) × (a ≡ b → ⊥) }
-    ensures { Gated (Gate.Two (cond cx Two.Cx Two.Cz) a b) w.old w.new }
+    ensures { Gated (Gate.Two gate a b) w.old w.new }
 {
     let xa = 8 * a;
     let za = 8 * a + 4;
     let xb = 8 * b;
     let zb = 8 * b + 4;
+    let cx = gate == Two::Cx;
     let p = select_unpredictable(cx, zb, xb);
     let q = select_unpredictable(cx, xb, zb);
     let y = select_unpredictable(cx, u64::MAX, 0);
@@ -114,10 +118,7 @@ pub fn gate(w: &mut Words, g: Gate)
     ensures { Gated g w.old w.new }
 {
     match g {
-        Gate::One(k, a) => one(w, usize::from(u8::from(k)), a),
-        Gate::Two(k, a, b) => match k {
-            Two::Cx => two(w, true, a, b),
-            Two::Cz => two(w, false, a, b),
-        },
+        Gate::One(k, a) => one(w, k, a),
+        Gate::Two(k, a, b) => two(w, k, a, b),
     }
 }

@@ -8,5 +8,5 @@ use Rattle.columns.proofs.two.Goals as goal
 
 pub returns : goal.returns
 returns c =
-    two_picked c.args.a c.args.b _ c.requires.0 c.requires.1 c.requires.2 c.args.cx _ _ c.select_unpredictable-p.ensures c.select_unpredictable-q.ensures
-    (λ s. all_or_none _ c.args.cx (s % 64) (mod-lt s (zero-lt-suc 63)) c.select_unpredictable-y.ensures) c.add.ensures c.add-2.ensures (turned_by _ c.turn.ensures c.two_turns-turned.ensures)
+    two_picked c.args.a c.args.b _ c.requires.0 c.requires.1 c.requires.2 c.args.gate _ c.eq-cx.ensures _ _ c.select_unpredictable-p.ensures c.select_unpredictable-q.ensures
+    (λ s. all_or_none _ _ (s % 64) (mod-lt s (zero-lt-suc 63)) c.select_unpredictable-y.ensures) c.add.ensures c.add-2.ensures (turned_by _ c.turn.ensures c.two_turns-turned.ensures)
