@@ -1,4 +1,3 @@
-pub mod Applying
 pub mod Shots
 pub mod Counting
 pub mod Views

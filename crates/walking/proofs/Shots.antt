@@ -9,8 +9,7 @@ use lib.Seq.{drop-cons}
 use Rattle.clifford.specs.Tableau.{Rows}
 use Rattle.clifford.specs.Measurement.{random_row, collapsed, fixed_value}
 use Rattle.clifford.specs.Run.{coin, afterwards}
-use Rattle.quick_lines.specs.Parts.Coded.{following}
-use Rattle.walking.specs.Parts.Walk.{flipped, Fixed, Random, Dry}
+use Rattle.walking.specs.Parts.Walk.{following, flipped, Fixed, Random, Dry}
 
 -- what follows a measurement is X where it resets and the outcome is 1
 resets_by : (reset outcome : Bool) (a : ℕ) (t : Rows) → flipped a (reset && outcome) t ≡ afterwards (following reset) a outcome t

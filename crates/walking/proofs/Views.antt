@@ -25,9 +25,9 @@ use Rattle.records.specs.Record.{mark, mark_of}
 use Rattle.tally.specs.declared.Tally.{Tally}
 use Rattle.tally.specs.Tally.{one_if}
 use Rattle.tally.specs.Parts.Stepping.{none_yet, stepped}
-use Rattle.quick_lines.specs.Parts.Coded.{op_in, length_in, Allowed}
-use Rattle.quick_lines.proofs.Codes.{allowed_valid}
-use Rattle.walking.specs.Parts.Walk.{Fixed, Random, Dry, ShotIs, View, Went, Goes, Applies}
+use Rattle.quick_lines.specs.Parts.Lines.{Allowed}
+use Rattle.circuit.proofs.Walk.{valid_op}
+use Rattle.walking.specs.Parts.Walk.{Fixed, Random, Dry, ShotIs, View, Went, Goes}
 use Rattle.tally.proofs.Tallies.{tally_begin, tally_stepped}
 
 pub view_begin : (n : ℕ) (coins words marks : List ℕ) → Holds n words → length marks ≡ most_operations → start n ≡ rows_of n words → View n coins (begin n coins) words marks none_yet
@@ -109,16 +109,16 @@ module _ (n : ℕ) (coins : List ℕ) (e : State) (words marks : List ℕ) (t : 
   pub went_dry : (line : ℕ) (g : After) (a : ℕ) → Dry n a (rows_of n words) (drop t.taken coins) → step n line (measure g a) e ≡ refused 7 line
   went_dry line g a f = ap₂ (settle n line g a e) (ap (random_row n a) v.rows_are ∙ f.kind) (v.coins_are ∙ f.none_left)
 
--- a line with a gate, by its number
-pub applied_step : (text : List ℕ) (at n code next : ℕ) (coins words marks : List ℕ) (t : Tally) (words' : List ℕ) → n ≤ most_qubits → Allowed text at n code → next ≡ at + length_in code
-    → Applies code words words' → Goes text at n coins words marks t next words' marks t
-applied_step text at n code next coins words marks t words' h w e p = record {
-  op = op_in code;
-  stands = rw e w.stands;
-  below = w.below;
-  parted = w.parted;
-  goes = λ line state v. rw p.is (went_gate n coins state words marks t v line p.gate words' h (rw p.is at (allowed_valid text at n code w)) p.gated);
-}
+-- a line with a gate
+module _ (text : List ℕ) (at n : ℕ) (g : Gate) (size : ℕ) (words words' : List ℕ) (h : n ≤ most_qubits) (w : Allowed text at n (apply g) size) (p : Gated g words words') where
+  pub gate_step : (coins marks : List ℕ) (t : Tally) → Goes text at n coins words marks t (at + size) words' marks t
+  gate_step coins marks t = record {
+    op = apply g;
+    stands = w.stands;
+    below = w.below;
+    parted = w.parted;
+    goes = λ line state v. went_gate n coins state words marks t v line g words' h (valid_op n (apply g) w.below w.parted) p;
+  }
 
-pub applied_holds : (text : List ℕ) (at n code : ℕ) (words words' : List ℕ) → n ≤ most_qubits → Holds n words → Allowed text at n code → Applies code words words' → Holds n words'
-applied_holds text at n code words words' h hd w p = p.gated.holds n h (rw p.is at (allowed_valid text at n code w)) hd
+  pub gate_holds : Holds n words → Holds n words'
+  gate_holds hd = p.holds n h (valid_op n (apply g) w.below w.parted) hd

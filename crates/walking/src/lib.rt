@@ -3,15 +3,14 @@
 #![tactic(auto)]
 
 ghost use Rattle.std.specs.Prelude.{◌≡◌, ◌≤◌, ◌<◌, length, drop};
-ghost use Rattle.clifford.specs.Run.{Valid};
-ghost use Rattle.quick_lines.specs.Parts.Coded.{following, op_in, name_in};
 ghost use Rattle.limits.specs.Limits.{most_qubits};
 ghost use Rattle.packing.specs.View.{rows_of};
 ghost use Rattle.records.specs.Record.{mark};
-ghost use Rattle.walking.specs.Parts.Walk.{flipped, ShotAs, HasRoom, MeasureAs, Applies, StepAs, Walkable, WalkAs};
+ghost use Rattle.walking.specs.Parts.Walk.{following, flipped, ShotAs, HasRoom, MeasureAs, StepAs, Walkable, WalkAs};
 
-use clifford::{One, Outcome};
-use packing::{Packed, Words};
+use clifford::{After, One, Outcome};
+use packing::Packed;
+use quick_lines::FlatOp;
 use tally::Tally;
 
 // X on a, where it is to be applied.
@@ -20,7 +19,7 @@ fn flip(rows: &mut Packed, a: usize, applies: bool)
     ensures { (rows.new.qubits ≡ rows.old.qubits) × (rows_of rows.old.qubits rows.new.words ≡ flipped a applies (rows_of rows.old.qubits rows.old.words)) }
 {
     if applies {
-        columns::one(&mut rows.words, usize::from(u8::from(One::PauliX)), a);
+        columns::one(&mut rows.words, One::PauliX, a);
     }
 }
 
@@ -83,20 +82,11 @@ pub struct Walk {
     pub tally: Tally,
 }
 
-// The gate of this number.
-#[inline(always)]
-pub fn apply(words: &mut Words, code: usize)
-    requires { Valid most_qubits (op_in code) × (name_in code ≡ 77 → ⊥) }
-    ensures { Applies code words.old words.new }
+// Whether a measurement resets.
+pub fn resets(after: After) -> bool
+    ensures { following result ≡ after }
 {
-    let name = quick_lines::code::name(code);
-    let a = quick_lines::code::first(code);
-    let b = quick_lines::code::second(code);
-    if (name == 1) | (name == 2) {
-        columns::two(words, name == 1, a, b);
-        return;
-    }
-    columns::one(words, name, a);
+    matches!(after, After::Reset)
 }
 
 impl Walk {
@@ -128,19 +118,15 @@ impl Walk {
         requires { HasRoom coins.now self.old.tally × (at ≤ length text.now) }
         ensures { StepAs text.now at coins.now self.old result self.new }
     {
-        let code = quick_lines::op_at(text, at, self.rows.qubits);
-        if code == 0 {
-            return Err(Stop::Refused);
+        let (op, size) = quick_lines::op_at(text, at, self.rows.qubits).ok_or(Stop::Refused)?;
+        match op {
+            FlatOp::One(gate, a) => columns::one(&mut self.rows.words, gate, a),
+            FlatOp::Two(gate, a, b) => columns::two(&mut self.rows.words, gate, a, b),
+            FlatOp::Measure(after, a) => self
+                .measure(resets(after), a, coins)
+                .ok_or(Stop::NoCoin)?,
         }
-        let next = at + quick_lines::code::length(code);
-        if quick_lines::code::name(code) == 77 {
-            let reset = quick_lines::code::resets(code);
-            let a = quick_lines::code::first(code);
-            self.measure(reset, a, coins).ok_or(Stop::NoCoin)?;
-        } else {
-            apply(&mut self.rows.words, code);
-        }
-        Ok(next)
+        Ok(at + size)
     }
 
     // All lines from the first on.

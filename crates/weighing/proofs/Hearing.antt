@@ -12,7 +12,8 @@ use Rattle.limits.specs.Limits.{most_qubits}
 use Rattle.pauli.specs.Letters.{◌⊕◌}
 use Rattle.clifford.specs.declared.After.{After}
 use Rattle.clifford.specs.declared.Op.{Op}
-use Rattle.clifford.specs.declared.Op.TheVariants.{Measure as measure}
+use Rattle.clifford.specs.declared.Gate.{Gate}
+use Rattle.clifford.specs.declared.Op.TheVariants.{Gate as apply, Measure as measure}
 use Rattle.clifford.specs.Tableau.{Rows}
 use Rattle.clifford.specs.Measurement.{random_row, collapsed, fixed_value}
 use Rattle.clifford.specs.Run.{coin, afterwards}
@@ -22,9 +23,10 @@ use Rattle.circuit.specs.Text.{all_below}
 use Rattle.circuit.proofs.Positions.{front}
 use Rattle.circuit.proofs.Walk.{next_at}
 use Rattle.packing.specs.View.{rows_of, Holds}
-use Rattle.quick_lines.specs.Parts.Coded.{following, after_of, op_in, name_in, first_in, second_in, length_in, Allowed}
-use Rattle.quick_lines.proofs.Codes.{allowed_valid, is_measure}
-use Rattle.walking.specs.Parts.Walk.{Fixed, Random, ShotIs, Applies}
+use Rattle.quick_lines.specs.Parts.Lines.{Allowed}
+use Rattle.circuit.proofs.Walk.{valid_op}
+use Rattle.columns.specs.Parts.Gated.{Gated}
+use Rattle.walking.specs.Parts.Walk.{Fixed, Random, ShotIs}
 use Rattle.tally.specs.Tally.{one_if}
 use Rattle.readouts.specs.Readouts.{Weighed, impossible, weigh}
 use Rattle.weighing.specs.declared.Passed.{Passed}
@@ -116,47 +118,36 @@ module _ (n : ℕ) (f : After) (a : ℕ) (t : Rows) (stated : List ℕ) (at : �
     heard_on false outcome v words' q hd s e = heard_fixed outcome words' hd s (ap (λ (b : Bool). not (beq b outcome)) (sym q) ∙ e)
 
 -- the line at a position
-module _ (text : List ℕ) (at n : ℕ) where
+module _ (text : List ℕ) (at n : ℕ) (stated words : List ℕ) (p : Passed) (size : ℕ) where
   -- it measures a
-  pub record Measuring (f : After) (a next : ℕ) : Type 0 where
-    pub stands : Stands op_line text at (measure f a) next
-    pub below : all_below n (measure f a) ≡ true
+  module _ (f : After) (a : ℕ) (w : Allowed text at n (measure f a) size) where
+    pub paced_measure : (more random : ℕ) (words' : List ℕ) → more ≤ 1 → random ≡ p.random + more → Hears n f a (rows_of n words) stated p.measured more words'
+        → Paces text at n stated words p (at + size) words' (record { measured = p.measured + 1; random = random })
+    paced_measure more random words' l e h = record {
+      op = measure f a;
+      stands = w.stands;
+      below = w.below;
+      parted = w.parted;
+      holds = h.holds;
+      measured_is = refl;
+      random_few = omega (arith, e, l);
+      same = λ line ops. rw e (h.same line ops p.random);
+    }
 
-  pub measuring : (code name a length : ℕ) (reset : Bool) → Allowed text at n code → name ≡ name_in code → a ≡ first_in code → following reset ≡ after_of (second_in code) → length ≡ length_in code
-      → name ≡ 77 → Measuring (following reset) a (at + length)
-  measuring code name a length reset w p q r l e =
-      let o : op_in code ≡ measure (following reset) a = rw r (is_measure code name a p q e) in
-      record { stands = rw l (rw o at w.stands); below = rw o at w.below }
+    pub paced_against : Against n f a (rows_of n words) stated p.measured → Halts text at n stated words p
+    paced_against h l room line ops e = let q = next_at n room line text at ops e (measure f a) (at + size) l w.stands in rw q.ops_is (h line q.more p.random)
 
-  module _ (stated words : List ℕ) (p : Passed) where
-    module _ (f : After) (a next : ℕ) (m : Measuring f a next) where
-      pub paced_measure : (more random : ℕ) (words' : List ℕ) → more ≤ 1 → random ≡ p.random + more → Hears n f a (rows_of n words) stated p.measured more words'
-          → Paces text at n stated words p next words' (record { measured = p.measured + 1; random = random })
-      paced_measure more random words' l e h = record {
-        op = measure f a;
-        stands = m.stands;
-        below = m.below;
-        parted = refl;
-        holds = h.holds;
-        measured_is = refl;
-        random_few = omega (arith, e, l);
-        same = λ line ops. rw e (h.same line ops p.random);
+  -- it has a gate
+  pub paced_gate : (g : Gate) (words' : List ℕ) → n ≤ most_qubits → Holds n words → Allowed text at n (apply g) size → Gated g words words' → Paces text at n stated words p (at + size) words' p
+  paced_gate g words' h hd w q =
+      let fits = valid_op n (apply g) w.below w.parted in
+      record {
+        op = apply g;
+        stands = w.stands;
+        below = w.below;
+        parted = w.parted;
+        holds = q.holds n h fits hd;
+        measured_is = sym (add-zero p.measured);
+        random_few = omega arith;
+        same = λ line ops. ap (λ (u : Rows). weigh n (suc line) ops u (drop p.measured (map coin stated)) p.random) (sym (q.rows n h fits));
       }
-
-      pub paced_against : Against n f a (rows_of n words) stated p.measured → Halts text at n stated words p
-      paced_against h l room line ops e = let q = next_at n room line text at ops e (measure f a) next l m.stands in rw q.ops_is (h line q.more p.random)
-
-    pub paced_gate : (code next : ℕ) (words' : List ℕ) → n ≤ most_qubits → Holds n words → Allowed text at n code → next ≡ at + length_in code → Applies code words words'
-        → Paces text at n stated words p next words' p
-    paced_gate code next words' h hd w e g =
-        let fits = rw g.is at (allowed_valid text at n code w) in
-        record {
-          op = op_in code;
-          stands = rw e w.stands;
-          below = w.below;
-          parted = w.parted;
-          holds = g.gated.holds n h fits hd;
-          measured_is = rw g.is (sym (add-zero p.measured));
-          random_few = omega arith;
-          same = λ line ops. rw g.is (ap (λ (u : Rows). weigh n (suc line) ops u (drop p.measured (map coin stated)) p.random) (sym (g.gated.rows n h fits)));
-        }

@@ -3,10 +3,11 @@
 #![tactic(auto)]
 
 ghost use Rattle.std.specs.Prelude.{◌≤◌, ◌<◌, length};
-ghost use Rattle.quick_lines.specs.Parts.Coded.{following};
+ghost use Rattle.walking.specs.Parts.Walk.{following};
 ghost use Rattle.weighing.specs.Parts.Heard.{HeardAs, PacedAs, Weighable, Fresh, WeighedAs};
 
 use packing::Packed;
+use quick_lines::FlatOp;
 
 // A measurement beside its character: whether it is random, which agrees with any character, or fixed and agrees; none where it goes no further.
 fn hear(rows: &mut Packed, reset: bool, a: usize, stated: &[u8], at: usize) -> Option<bool>
@@ -39,23 +40,18 @@ fn pace(
     requires { Weighable passed × (at ≤ length text.now) }
     ensures { PacedAs text.now at stated.now rows.old passed result rows.new }
 {
-    let code = quick_lines::op_at(text, at, rows.qubits);
-    if code == 0 {
-        return None;
+    let (op, size) = quick_lines::op_at(text, at, rows.qubits)?;
+    let mut more = passed;
+    match op {
+        FlatOp::One(gate, a) => columns::one(&mut rows.words, gate, a),
+        FlatOp::Two(gate, a, b) => columns::two(&mut rows.words, gate, a, b),
+        FlatOp::Measure(after, a) => {
+            let random = hear(rows, walking::resets(after), a, stated, passed.measured)?;
+            more.measured += 1;
+            more.random += usize::from(random);
+        }
     }
-    let next = at + quick_lines::code::length(code);
-    if quick_lines::code::name(code) == 77 {
-        let reset = quick_lines::code::resets(code);
-        let a = quick_lines::code::first(code);
-        let random = hear(rows, reset, a, stated, passed.measured)?;
-        let more = Passed {
-            measured: passed.measured + 1,
-            random: passed.random + usize::from(random),
-        };
-        return Some((next, more));
-    }
-    walking::apply(&mut rows.words, code);
-    Some((next, passed))
+    Some((at + size, more))
 }
 
 // The walk ended before the text: at a line that begins at this position, behind so many operations and these counts.

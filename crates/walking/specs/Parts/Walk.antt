@@ -4,9 +4,9 @@ use Rattle.std.specs.Prelude.{Option, None, Some, Result, Ok, Err}
 use Rattle.limits.specs.Limits.{most_operations}
 use Rattle.answers.specs.Verdict.{Verdict, accepted, refused}
 use Rattle.clifford.specs.declared.One.TheVariants.{PauliX}
-use Rattle.clifford.specs.declared.Gate.{Gate}
 use Rattle.clifford.specs.declared.Gate.TheVariants.{One as one}
 use Rattle.clifford.specs.declared.After.{After}
+use Rattle.clifford.specs.declared.After.TheVariants.{Keep, Reset}
 use Rattle.clifford.specs.declared.Op.{Op}
 use Rattle.clifford.specs.declared.Op.TheVariants.{Gate as apply, Measure as measure}
 use Rattle.clifford.specs.Tableau.{Rows, start, gated}
@@ -16,10 +16,8 @@ use Rattle.clifford.specs.Run.{State, begin, coin, afterwards, step, run}
 use Rattle.circuit.specs.Lines.{op_line}
 use Rattle.circuit.specs.Parts.Reading.{Stands}
 use Rattle.circuit.specs.Text.{all_below, apart, operations}
-use Rattle.quick_lines.specs.Parts.Coded.{op_in}
 use Rattle.packing.specs.declared.Packed.{Packed}
 use Rattle.packing.specs.View.{rows_of, Holds}
-use Rattle.columns.specs.Parts.Gated.{Gated}
 use Rattle.records.specs.Record.{mark}
 use Rattle.walking.specs.declared.Stop.{Stop}
 use Rattle.walking.specs.declared.Stop.TheVariants.{NoCoin, Refused}
@@ -28,6 +26,10 @@ use Rattle.walking.specs.declared.Walk.{Walk}
 use Rattle.tally.specs.declared.Tally.{Tally}
 use Rattle.tally.specs.Tally.{tally_of}
 use Rattle.tally.specs.Parts.Stepping.{none_yet}
+
+-- what follows a measurement, by whether it resets
+abbrev pub following : Bool → After
+following resets = cond resets Reset Keep
 
 -- X on a, where it is applied
 abbrev pub flipped : ℕ → Bool → Rows → Rows
@@ -84,12 +86,6 @@ pub record Went (n : ℕ) (coins : List ℕ) (v : Verdict State) (words marks : 
   pub state : State
   pub is : v ≡ accepted state
   pub view : View n coins state words marks t
-
--- the gate of a number took the words to others
-pub record Applies (code : ℕ) (words words' : List ℕ) : Type 0 where
-  pub gate : Gate
-  pub is : op_in code ≡ apply gate
-  pub gated : Gated gate words words'
 
 -- the line at this position is allowed and done, and the next one stands behind it
 pub record Goes (text : List ℕ) (at n : ℕ) (coins words marks : List ℕ) (t : Tally) (next : ℕ) (words' marks' : List ℕ) (t' : Tally) : Type 0 where

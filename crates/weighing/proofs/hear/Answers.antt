@@ -1,7 +1,7 @@
 -- `weighing::hear` meets its contract. Assumes nothing.
 use borrow.Author.Rules.{rules}
 use Rattle.packing.specs.View.{rows_of}
-use Rattle.quick_lines.specs.Parts.Coded.{following}
+use Rattle.walking.specs.Parts.Walk.{following}
 use Rattle.weighing.proofs.Hearing.{heard_off, heard_on}
 use Rattle.weighing.proofs.hear.Goals as goal
 

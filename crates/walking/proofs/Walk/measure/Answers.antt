@@ -1,5 +1,5 @@
 -- `walking::Walk::measure` meets its contract. Assumes nothing.
-use Rattle.quick_lines.specs.Parts.Coded.{following}
+use Rattle.walking.specs.Parts.Walk.{following}
 use Rattle.walking.proofs.Views.{went_shot}
 use Rattle.walking.proofs.Walk.measure.Goals as goal
 
