@@ -10,6 +10,7 @@ ghost use Rattle.checking.specs.Parts.Promises.{added, TurnAt, Heads, Scans};
 ghost use Rattle.checking.specs.Check.{check_of};
 
 use answers::Refusal;
+use quick_lines::FlatOp;
 
 // What a check answers: the number of qubits, and how many operations.
 #[derive(Clone, Copy, Debug, PartialEq, Eq)]
@@ -68,11 +69,10 @@ fn turn_at(s: &[u8], at: usize, n: usize, line: usize) -> Result<Turn, Refusal>
     requires { (n ≤ most_qubits) × (at ≤ length s.now) }
     ensures { TurnAt s.now at n line result }
 {
-    let found = quick_lines::usual::line_at(s, at, n);
-    if 0 < found {
+    if let Some((op, size)) = quick_lines::usual::line_at(s, at, n) {
         return Ok(Turn {
-            next: at + quick_lines::code::length(found),
-            measured: quick_lines::code::one_if_measure(found),
+            next: at + size,
+            measured: usize::from(matches!(op, FlatOp::Measure(..))),
         });
     }
     judged_at(s, at, n, line)

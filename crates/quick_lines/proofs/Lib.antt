@@ -1,3 +1,2 @@
-pub mod Codes
-pub mod Bounds
-pub mod UsualLines
+pub mod Others
+pub mod Pairs

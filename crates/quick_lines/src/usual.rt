@@ -1,47 +1,58 @@
 // Reads a line of the usual kind: one of the nine names, qubits of one to three digits, and nothing near the end of the text. Such a line needs few
-// tests, and its operation goes back as one number, by no way of memory. Between one digit and two there is no jump: a jump there is often mispredicted. What is 0
-// here is left to `line_at`.
-ghost use Rattle.std.specs.Prelude.{true, false, ◌&&◌, cond, List, ◌∷◌, ◌≡◌, ℕ, ◌+◌, ◌-◌, ◌*◌, ◌%◌, ◌≤◌, ◌<◌, leb, length, get_or};
+// tests. Between one digit and two there is no jump: a jump there is often mispredicted. What is None here is left to `line_at` of circuit.
+ghost use Rattle.std.specs.Prelude.{false, ◌&&◌, cond, ◌≡◌, ℕ, ◌+◌, ◌*◌, ◌%◌, ◌≤◌, ◌<◌, leb, length, get_or, IfSome};
 ghost use Rattle.limits.specs.Limits.{most_qubits};
-ghost use Rattle.circuit.specs.Lines.{space, is_digit, with_one, with_two, names, operands, named};
-ghost use Rattle.quick_lines.specs.Parts.Coded.{op_of, digits_at, QubitAt, Usual};
+ghost use Rattle.clifford.specs.Named.{one_letter};
+ghost use Rattle.circuit.specs.Lines.{is_digit};
+ghost use Rattle.quick_lines.specs.Parts.Lines.{second_letter, digits_at, three_digits, QubitAt, Usual};
 
-// The name of an operation on one qubit, if it is a single letter.
-fn single(c: u8) -> bool
-    ensures { result ≡ true → (2 < c) × ((t : List ℕ) → named names (c ∷ space ∷ t) ≡ operands (with_one (λ a. op_of c a 0)) t) }
+use crate::FlatOp;
+use clifford::{After, One, Two};
+
+// The gates on one qubit by their letters, from H to Z. A `match` of letters becomes a jump, and it is often mispredicted.
+static GATES: [Option<One>; 19] = [
+    Some(One::H),
+    None,
+    None,
+    None,
+    None,
+    None,
+    None,
+    None,
+    None,
+    None,
+    None,
+    Some(One::S),
+    None,
+    None,
+    None,
+    None,
+    Some(One::PauliX),
+    Some(One::PauliY),
+    Some(One::PauliZ),
+];
+
+// The gate on one qubit that this letter names.
+#[inline(always)]
+fn single(c: u8) -> Option<One>
+    ensures { IfSome result (λ gate. one_letter gate ≡ c) }
+{
+    if (c < b'H') | (b'Z' < c) {
+        return None;
+    }
+    GATES[usize::from(c - b'H')]
+}
+
+// The gate on two qubits that C and this letter name.
+#[inline(always)]
+fn pair(c: u8) -> Option<Two>
+    ensures { IfSome result (λ gate. second_letter gate ≡ c) }
 {
     match c {
-        72 => true,
-        83 => true,
-        88 => true,
-        89 => true,
-        90 => true,
-        77 => true,
-        _ => false,
+        b'X' => Some(Two::Cx),
+        b'Z' => Some(Two::Cz),
+        _ => None,
     }
-}
-
-// The letter behind C: 1 for X, 2 for Z.
-fn pair(c: u8) -> usize
-    ensures { (result ≤ 2) × (0 < result → (t : List ℕ) → named names (67 ∷ c ∷ space ∷ t) ≡ operands (with_two (op_of result)) t) }
-{
-    match c {
-        88 => 1,
-        90 => 2,
-        _ => 0,
-    }
-}
-
-fn is_digit(c: u8) -> bool
-    ensures { result ≡ is_digit c }
-{
-    (48 <= c) & (c <= 57)
-}
-
-fn one_if(b: bool) -> usize
-    ensures { result ≡ cond b 1 0 }
-{
-    if b { 1 } else { 0 }
 }
 
 // How many digits the number behind this space has, if this byte ends it.
@@ -52,122 +63,113 @@ fn width(s: &[u8], at: usize, stop: u8) -> usize
     if s[at + 4] == stop {
         return 3;
     }
-    1 + one_if(is_digit(s[at + 2]))
+    1 + usize::from(s[at + 2].is_ascii_digit())
 }
 
 // Whether a number begins with this byte, with more behind it or not: not with a zero too many.
 fn starts(first: u8, more: bool) -> bool
     ensures { result ≡ (leb first 57 && leb (48 + cond more 1 0) first) }
 {
-    (first <= 57) & (48 + one_if(more) <= first as usize)
+    (first <= b'9') & (b'0' + u8::from(more) <= first)
 }
 
 // The number of one or two digits that these bytes make. A product takes the second digit in or leaves it out: of an `if` the compiler makes a jump here.
 fn value(first: u8, more: bool, second: u8) -> usize
     ensures { result ≡ cond more (10 * (first % 16) + second % 16) (first % 16) }
 {
-    let d = (first % 16) as usize;
-    d + one_if(more) * (9 * d + (second % 16) as usize)
+    let d = usize::from(first % 16);
+    d + usize::from(more) * (9 * d + usize::from(second % 16))
 }
 
-// The number of three digits that these bytes make; n where they make none.
-fn three(first: u8, second: u8, third: u8, n: usize) -> usize
-    ensures { result < n → ((is_digit second && is_digit third) ≡ true) × (result ≡ 100 * (first % 16) + 10 * (second % 16) + third % 16) }
+// The number of three digits that these bytes make.
+fn three(first: u8, second: u8, third: u8) -> Option<usize>
+    ensures { IfSome result (λ a. three_digits first second third a) }
 {
-    if !(is_digit(second) & is_digit(third)) {
-        return n;
+    if !(second.is_ascii_digit() & third.is_ascii_digit()) {
+        return None;
     }
-    100 * (first % 16) as usize + 10 * (second % 16) as usize + (third % 16) as usize
+    Some(100 * usize::from(first % 16) + 10 * usize::from(second % 16) + usize::from(third % 16))
 }
 
-// The qubit whose number stands behind a space, with this byte behind it; n where none does.
-fn qubit(s: &[u8], at: usize, n: usize, stop: u8) -> usize
+// The qubit whose number stands behind a space, with this byte behind it.
+fn qubit(s: &[u8], at: usize, n: usize, stop: u8) -> Option<usize>
     requires { (at + 5 ≤ length s.now) × (is_digit stop ≡ false) }
     ensures { QubitAt s.now at n stop result }
 {
-    if s[at] != 32 {
-        return n;
+    if s[at] != b' ' {
+        return None;
     }
     let first = s[at + 1];
     let second = s[at + 2];
-    let more = is_digit(second);
+    let more = second.is_ascii_digit();
     if !starts(first, more) {
-        return n;
+        return None;
     }
     if s[at + 4] == stop {
-        return three(first, second, s[at + 3], n);
+        let a = three(first, second, s[at + 3])?;
+        return if a < n { Some(a) } else { None };
     }
     if s[at + 1 + width(s, at, stop)] != stop {
-        return n;
+        return None;
     }
-    value(first, more, second)
+    let a = value(first, more, second);
+    if a < n { Some(a) } else { None }
 }
 
-// MR and a qubit, where M and a qubit is not what stands there.
-fn reset_at(s: &[u8], at: usize, n: usize) -> usize
-    requires { (at + 11 ≤ length s.now) × (n ≤ most_qubits) }
+// M or MR, and a qubit.
+#[inline(always)]
+fn measure_at(s: &[u8], at: usize, n: usize) -> Option<(FlatOp, usize)>
+    requires { (at + 11 ≤ length s.now) × (get_or s.now at 0 ≡ 77) × (n ≤ most_qubits) }
     ensures { Usual s.now at n result }
 {
-    if s[at] != 77 {
-        return 0;
+    if s[at + 1] == b'R' {
+        let a = qubit(s, at + 2, n, b'\n')?;
+        let length = 4 + width(s, at + 2, b'\n');
+        return Some((FlatOp::Measure(After::Reset, a), length));
     }
-    if s[at + 1] != 82 {
-        return 0;
-    }
-    let a = qubit(s, at + 2, n, 10);
-    if n <= a {
-        return 0;
-    }
-    crate::code::pack(77, a, 1, 4 + width(s, at + 2, 10))
+    let a = qubit(s, at + 1, n, b'\n')?;
+    Some((FlatOp::Measure(After::Keep, a), 3 + width(s, at + 1, b'\n')))
 }
 
-fn one_at(s: &[u8], at: usize, n: usize, c: u8) -> usize
+// The gate of this letter, and a qubit.
+#[inline(always)]
+fn one_at(s: &[u8], at: usize, n: usize, c: u8) -> Option<(FlatOp, usize)>
     requires { (at + 11 ≤ length s.now) × (get_or s.now at 0 ≡ c) × (n ≤ most_qubits) }
     ensures { Usual s.now at n result }
 {
-    if !single(c) {
-        return 0;
-    }
-    let a = qubit(s, at + 1, n, 10);
-    if n <= a {
-        return reset_at(s, at, n);
-    }
-    crate::code::pack(c as usize, a, 0, 3 + width(s, at + 1, 10))
+    let a = qubit(s, at + 1, n, b'\n')?;
+    let gate = single(c)?;
+    Some((FlatOp::One(gate, a), 3 + width(s, at + 1, b'\n')))
 }
 
-fn two_at(s: &[u8], at: usize, n: usize) -> usize
+// CX or CZ, and two qubits.
+#[inline(always)]
+fn two_at(s: &[u8], at: usize, n: usize) -> Option<(FlatOp, usize)>
     requires { (at + 11 ≤ length s.now) × (get_or s.now at 0 ≡ 67) × (n ≤ most_qubits) }
     ensures { Usual s.now at n result }
 {
-    let name = pair(s[at + 1]);
-    if name == 0 {
-        return 0;
-    }
-    let a = qubit(s, at + 2, n, 32);
-    if n <= a {
-        return 0;
-    }
-    let front = 3 + width(s, at + 2, 32);
-    let b = qubit(s, at + front, n, 10);
-    if n <= b {
-        return 0;
-    }
+    let gate = pair(s[at + 1])?;
+    let a = qubit(s, at + 2, n, b' ')?;
+    let front = 3 + width(s, at + 2, b' ');
+    let b = qubit(s, at + front, n, b'\n')?;
     if a == b {
-        return 0;
+        return None;
     }
-    crate::code::pack(name, a, b, front + 2 + width(s, at + front, 10))
+    let length = front + 2 + width(s, at + front, b'\n');
+    Some((FlatOp::Two(gate, a, b), length))
 }
 
-pub fn line_at(s: &[u8], at: usize, n: usize) -> usize
+#[inline(always)]
+pub fn line_at(s: &[u8], at: usize, n: usize) -> Option<(FlatOp, usize)>
     requires { (n ≤ most_qubits) × (at ≤ length s.now) }
     ensures { Usual s.now at n result }
 {
     if s.len() - at < 11 {
-        return 0;
+        return None;
     }
-    let c = s[at];
-    if c == 67 {
-        return two_at(s, at, n);
+    match s[at] {
+        b'C' => two_at(s, at, n),
+        b'M' => measure_at(s, at, n),
+        c => one_at(s, at, n, c),
     }
-    one_at(s, at, n, c)
 }

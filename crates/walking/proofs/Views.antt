@@ -122,3 +122,8 @@ module _ (text : List ℕ) (at n : ℕ) (g : Gate) (size : ℕ) (words words' : 
 
   pub gate_holds : Holds n words → Holds n words'
   gate_holds hd = p.holds n h (valid_op n (apply g) w.below w.parted) hd
+
+-- a line that measures
+pub measure_step : (text : List ℕ) (at n : ℕ) (f : After) (a size : ℕ) (words marks : List ℕ) (t : Tally) → Allowed text at n (measure f a) size → (coins words' marks' : List ℕ) (t' : Tally)
+    → ((line : ℕ) (e : State) → View n coins e words marks t → Went n coins (step n line (measure f a) e) words' marks' t') → Goes text at n coins words marks t (at + size) words' marks' t'
+measure_step text at n f a size words marks t w coins words' marks' t' g = record { op = measure f a; stands = w.stands; below = w.below; parted = w.parted; goes = g }

@@ -118,13 +118,13 @@ impl Walk {
         requires { HasRoom coins.now self.old.tally × (at ≤ length text.now) }
         ensures { StepAs text.now at coins.now self.old result self.new }
     {
-        let (op, size) = quick_lines::op_at(text, at, self.rows.qubits).ok_or(Stop::Refused)?;
+        let Some((op, size)) = quick_lines::op_at(text, at, self.rows.qubits) else {
+            return Err(Stop::Refused);
+        };
         match op {
             FlatOp::One(gate, a) => columns::one(&mut self.rows.words, gate, a),
             FlatOp::Two(gate, a, b) => columns::two(&mut self.rows.words, gate, a, b),
-            FlatOp::Measure(after, a) => self
-                .measure(resets(after), a, coins)
-                .ok_or(Stop::NoCoin)?,
+            FlatOp::Measure(after, a) => self.measure(resets(after), a, coins).ok_or(Stop::NoCoin)?,
         }
         Ok(at + size)
     }

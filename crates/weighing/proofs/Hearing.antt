@@ -17,9 +17,6 @@ use Rattle.clifford.specs.declared.Op.TheVariants.{Gate as apply, Measure as mea
 use Rattle.clifford.specs.Tableau.{Rows}
 use Rattle.clifford.specs.Measurement.{random_row, collapsed, fixed_value}
 use Rattle.clifford.specs.Run.{coin, afterwards}
-use Rattle.circuit.specs.Lines.{op_line}
-use Rattle.circuit.specs.Parts.Reading.{Stands}
-use Rattle.circuit.specs.Text.{all_below}
 use Rattle.circuit.proofs.Positions.{front}
 use Rattle.circuit.proofs.Walk.{next_at}
 use Rattle.packing.specs.View.{rows_of, Holds}

@@ -8,7 +8,7 @@ use Rattle.clifford.specs.declared.Gate.TheVariants.{One as one}
 use Rattle.clifford.specs.declared.After.{After}
 use Rattle.clifford.specs.declared.After.TheVariants.{Keep, Reset}
 use Rattle.clifford.specs.declared.Op.{Op}
-use Rattle.clifford.specs.declared.Op.TheVariants.{Gate as apply, Measure as measure}
+use Rattle.clifford.specs.declared.Op.TheVariants.{Measure as measure}
 use Rattle.clifford.specs.Tableau.{Rows, start, gated}
 use Rattle.clifford.specs.declared.Outcome.{Outcome}
 use Rattle.clifford.specs.Measurement.{random_row, collapsed, fixed_value}

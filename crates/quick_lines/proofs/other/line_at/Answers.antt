@@ -1,35 +1,15 @@
 -- `quick_lines::other::line_at` meets its contract. Assumes nothing.
-use mathlib.Core.Bool.{◌&&◌}
-use mathlib.Core.Path.{sym, ◌∙◌, ap₂}
-use native.Mathlib.Omega.{arith}
-use Rattle.limits.specs.Limits.{most_qubits}
-use Rattle.circuit.proofs.Walk.{and_left, and_right}
-use Rattle.quick_lines.proofs.Bounds.{line_short}
-use Rattle.quick_lines.proofs.Codes.{below_more, op_read, op_refused, op_malformed}
+use mathlib.Core.Path.{sym, ◌∙◌}
+use Rattle.quick_lines.proofs.Others.{refused_below, refused_apart, op_malformed}
 use Rattle.quick_lines.proofs.other.line_at.Goals as goal
+use Rattle.quick_lines.proofs.other.line_at.Goals.{else-qubits_below-via-then-qubits_below+else-qubits_apart, else-qubits_below-via-else-qubits_below}
 
-pub overflow_sub-next : goal.overflow_sub-next
-overflow_sub-next c = omega (arith, c.in-Some.ensures.after)
+pub returns-in_err-op : goal.returns-in_err-op
+returns-in_err-op c = rw c.from_residual.ensures (op_malformed c.args.s.now c.args.at c.args.n c.in_err-op.ensures)
 
-pub of-requires : goal.of-requires
-of-requires c =
-    let a = c.args in
-    let r = c.in-Some.ensures in
-    (below_more a.n most_qubits c.in-Some.op c.requires (sym c.qubits_below-below.ensures ∙ and_left _ c.qubits_apart-apart.result c.if-below-apart.true), omega (arith, r.after), omega (arith, r.after, line_short a.s.now a.at _ _ r))
-
-pub returns-then-below-apart : goal.returns-then-below-apart
-returns-then-below-apart c =
-    let a = c.args in
-    op_read a.s.now a.at a.n _ _ c.of.result c.in-Some.ensures
-    (sym c.qubits_below-below.ensures ∙ and_left _ c.qubits_apart-apart.result c.if-below-apart.true)
-    (sym c.qubits_apart-apart.ensures ∙ and_right c.qubits_below-below.result _ c.if-below-apart.true) c.of.ensures.0 c.of.ensures.1 c.of.ensures.2
-
-pub returns-else-below-apart : goal.returns-else-below-apart
-returns-else-below-apart c =
-    let a = c.args in
-    op_refused a.s.now a.at a.n _ _ c.in-Some.ensures (ap₂ ◌&&◌ (sym c.qubits_below-below.ensures) (sym c.qubits_apart-apart.ensures) ∙ c.if-below-apart.false)
-
-pub returns-in-None : goal.returns-in-None
-returns-in-None c =
-    let a = c.args in
-    op_malformed a.s.now a.at a.n c.in-None.ensures
+pub returns-else-qubits_below : goal.returns-else-qubits_below
+returns-else-qubits_below c =
+    elim c.else-qubits_below.branch [
+      | else-qubits_below-via-then-qubits_below+else-qubits_apart w ↦ refused_apart _ _ _ _ _ c.in_ok-op.ensures (sym w.qubits_apart.ensures ∙ w.if-qubits_apart.false)
+      | else-qubits_below-via-else-qubits_below w ↦ refused_below _ _ _ _ _ c.in_ok-op.ensures (sym c.qubits_below.ensures ∙ w.if-qubits_below.false)
+    ]
