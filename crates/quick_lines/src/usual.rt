@@ -70,7 +70,7 @@ fn width(s: &[u8], at: usize, stop: u8) -> usize
 fn starts(first: u8, more: bool) -> bool
     ensures { result ≡ (leb first 57 && leb (48 + cond more 1 0) first) }
 {
-    (first <= b'9') & (b'0' + u8::from(more) <= first)
+    (first <= b'9') & (usize::from(b'0') + usize::from(more) <= usize::from(first))
 }
 
 // The number of one or two digits that these bytes make. A product takes the second digit in or leaves it out: of an `if` the compiler makes a jump here.
@@ -107,13 +107,13 @@ fn qubit(s: &[u8], at: usize, n: usize, stop: u8) -> Option<usize>
     }
     if s[at + 4] == stop {
         let a = three(first, second, s[at + 3])?;
-        return if a < n { Some(a) } else { None };
+        return (a < n).then_some(a);
     }
     if s[at + 1 + width(s, at, stop)] != stop {
         return None;
     }
     let a = value(first, more, second);
-    if a < n { Some(a) } else { None }
+    (a < n).then_some(a)
 }
 
 // M or MR, and a qubit.
@@ -137,9 +137,9 @@ fn one_at(s: &[u8], at: usize, n: usize, c: u8) -> Option<(FlatOp, usize)>
     requires { (at + 11 ≤ length s.now) × (get_or s.now at 0 ≡ c) × (n ≤ most_qubits) }
     ensures { Usual s.now at n result }
 {
-    let a = qubit(s, at + 1, n, b'\n')?;
+    let target = qubit(s, at + 1, n, b'\n')?;
     let gate = single(c)?;
-    Some((FlatOp::One(gate, a), 3 + width(s, at + 1, b'\n')))
+    Some((FlatOp::One(gate, target), 3 + width(s, at + 1, b'\n')))
 }
 
 // CX or CZ, and two qubits.
