@@ -2,7 +2,8 @@
 // of a file here and in a file's place in `replacing`, and how a program ends that cannot go on. Files are read up to a limit, so that an archive may have any size.
 #![tactic(auto)]
 
-ghost use Rattle.std.specs.Prelude.{◌≤◌, IfOk, IfSome, vec_len};
+ghost use Rattle.std.specs.Prelude.{◌+◌, ◌*◌, ◌≤◌, IfOk, IfSome, vec_len};
+ghost use Rattle.limits.specs.Limits.{most_operations, most_qubits};
 
 mod replacing;
 
@@ -153,7 +154,9 @@ pub fn coins<R: Files + Env + Eprint + AllocGlobal>(rt: &R) -> Result<Vec<u8>, Q
 }
 
 // As many bytes as the longest record has at the end of the file that the i-th word names, or all of it where there are fewer.
-pub fn tail<R: Files + Env + Eprint + AllocGlobal>(rt: &R, i: usize) -> Result<Vec<u8>, Quit> {
+pub fn tail<R: Files + Env + Eprint + AllocGlobal>(rt: &R, i: usize) -> Result<Vec<u8>, Quit>
+    ensures { IfOk result (λ bytes. vec_len bytes ≤ most_operations + 2 * most_qubits * (1 + most_qubits) + 12) }
+{
     let mut file = open_word(rt, i)?;
     if file
         .seek(SeekFrom::End(-(limits::LONGEST_RECORD as i64)))
@@ -164,6 +167,7 @@ pub fn tail<R: Files + Env + Eprint + AllocGlobal>(rt: &R, i: usize) -> Result<V
     let mut bytes = Vec::new(rt.alloc());
     file.take(limits::LONGEST_RECORD as u64)
         .read_to_end(&mut bytes)?;
+    bytes.truncate(limits::LONGEST_RECORD);
     Ok(bytes)
 }
 

@@ -6,7 +6,7 @@ use std::io;
 use std::rt::Files;
 use tool::Quit;
 
-// The rows stand between the outcomes and the 12 bytes at the end.
+// The rows stand between the outcomes and the trailer.
 #[tactic(auto, using(crate::proofs::Sizes::handed_sizes))]
 fn show<R: Files + Env + Print + Eprint + AllocGlobal>(rt: &R) -> Result<(), Quit> {
     let bytes = tool::tail(rt, 1)?;
@@ -15,7 +15,7 @@ fn show<R: Files + Env + Print + Eprint + AllocGlobal>(rt: &R) -> Result<(), Qui
         Ok(record) => {
             tool::print_line(rt, record.outcomes)?;
             let start = bytes.len() - record.size + record.outcomes.len();
-            let end = bytes.len() - 12;
+            let end = bytes.len() - limits::TRAILER;
             for row in bytes[start..end].chunks_exact(record.qubits + 1) {
                 tool::print_line(rt, row)?;
             }
