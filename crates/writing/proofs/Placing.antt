@@ -19,10 +19,6 @@ pub placed_none : (old : List ℕ) (at : ℕ) → old ≡ placed old at []
 unfolding placed
 placed_none old at = sym (rw (append-nil, add-zero, take-append-drop))
 
--- a text that is copied to the front
-pub front_copied : (old new text : List ℕ) (k : ℕ) → new ≡ text → k ≡ length text → put_mid 0 k old new ≡ over text old
-front_copied old new text k e l = ap₂ (λ (s : List ℕ) (m : ℕ). s ++ drop m old) e l
-
 pub placed_front : (old text : List ℕ) → placed old 0 text ≡ over text old
 unfolding placed
 placed_front old text = ap (λ (k : ℕ). text ++ drop k old) (zero-add (length text))

@@ -38,21 +38,6 @@ fn put_plane(plane: &mut [u8; PLANE], words: &Words, slot: usize, n: usize)
     }
 }
 
-// The rows of word g of each group of four.
-fn planes(words: &Words, g: usize, n: usize) -> Planes
-    requires { (g < 4) × (n ≤ most_qubits) }
-    ensures { PlanesOf words.now g n result }
-{
-    let mut p = Planes {
-        x: [0; PLANE],
-        z: [0; PLANE],
-        signs: words[packing::SIGNS + g],
-    };
-    put_plane(&mut p.x, words, g, n);
-    put_plane(&mut p.z, words, 4 + g, n);
-    p
-}
-
 fn letter_in(p: &Planes, i: usize, j: usize) -> u8
     requires { (i < 64) × (j < most_qubits) }
     ensures { result ≡ letter_byte (plane_letter p.now.x p.now.z i j) }
@@ -79,7 +64,13 @@ fn put_rows(out: &mut [u8], words: &Words, g: usize, k: usize, n: usize)
     requires { (g < 4) × (k ≤ 64) × (n ≤ most_qubits) × (k * (n + 1) ≤ length out.old) }
     ensures { out.new ≡ over (texts_from n words.now (64 * g) k) out.old }
 {
-    let p = planes(words, g, n);
+    let mut p = Planes {
+        x: [0; PLANE],
+        z: [0; PLANE],
+        signs: words[packing::SIGNS + g],
+    };
+    put_plane(&mut p.x, words, g, n);
+    put_plane(&mut p.z, words, 4 + g, n);
     for i in 0..k {
         put_row(&mut out[i * (n + 1)..], &p, i, n);
     }
@@ -96,11 +87,14 @@ fn put_group(out: &mut [u8], words: &Words, first: usize, n: usize)
     }
 }
 
+// Byte by byte: `copy_from_slice` would have the archive for C ask for `memmove`, which it does without.
 fn put(out: &mut [u8], text: &[u8])
     requires { length text.now ≤ length out.old }
     ensures { out.new ≡ over text.now out.old }
 {
-    out[..text.len()].copy_from_slice(text);
+    for k in 0..text.len() {
+        out[k] = text[k];
+    }
 }
 
 fn put_trailer(out: &mut [u8], n: usize, count: usize)
