@@ -40,7 +40,8 @@ fn code(b: u8) -> usize
 fn multiply(a: u8, b: u8) -> Entry
     ensures { Tabled a b result }
 {
-    let (letter, power) = PRODUCTS[code(a)][code(b)];
+    let products = &PRODUCTS;
+    let (letter, power) = products[code(a)][code(b)];
     Entry { letter, power }
 }
 
