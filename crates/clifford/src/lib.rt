@@ -60,3 +60,21 @@ impl From<One> for u8 {
         }
     }
 }
+
+// The gate that a letter names, by its number; any other number is Z.
+impl From<usize> for One {
+    ghost use Rattle.std.specs.Prelude.{◌≡◌};
+    ghost use Rattle.clifford.specs.Parts.ByLetter.{one_of};
+
+    ghost from_gives = { λ letter gate. gate ≡ one_of letter };
+
+    fn from(letter: usize) -> One {
+        match letter {
+            72 => One::H,
+            83 => One::S,
+            88 => One::PauliX,
+            89 => One::PauliY,
+            _ => One::PauliZ,
+        }
+    }
+}

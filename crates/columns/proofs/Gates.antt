@@ -1,5 +1,5 @@
 -- A gate on the sign and the letters of each row is the gate on the tableau, and sets nothing from row n or qubit n on. Assumes nothing.
-use mathlib.Core.Path.{◌≡◌, refl, sym, ap, ap₂, ◌∙◌}
+use mathlib.Core.Path.{◌≡◌, refl, sym, ap, ap₂, ◌∙◌, subst}
 use mathlib.Core.Bool.{Bool, false, cond}
 use mathlib.Core.List.{List}
 use Prim.Native.Nat.{ℕ, ◌+◌, ◌≤◌, ◌<◌}
@@ -83,3 +83,7 @@ module _ (g : Gate) (w w' : List ℕ) (lw : Words w')
       letters = λ s j l b c. letters s j l c ∙ new_away g n (letter_at w s) f j b ∙ a.letters s j l b c;
     };
   }
+
+-- a gate that is given as itself
+pub as_given : (k : One) (a : ℕ) (w v : List ℕ) → (g : One) × (g ≡ k) × Gated (one g a) w v → Gated (one k a) w v
+as_given k a w v h = subst (λ (g : One). Gated (one g a) w v) h.1 h.2

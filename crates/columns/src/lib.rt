@@ -72,11 +72,12 @@ fn shuffle(w: &mut Words, xi: usize, fx: usize, fz: usize, added: u64)
     sum.store(w, xi + 4);
 }
 
-// A gate on one qubit. Which it is decides no jump of the processor's: the gate picks indices.
-pub fn one(w: &mut Words, gate: One, a: usize)
+// A gate on one qubit, or what stands for one, as its letter's number does. Which it is decides no jump of the processor's: the gate picks indices.
+pub fn one<G: Into<One>>(w: &mut Words, gate: G, a: usize)
     requires { a < most_qubits }
-    ensures { Gated (Gate.One gate a) w.old w.new }
+    ensures { (g : One) × G.converts gate g × Gated (Gate.One g a) w.old w.new }
 {
+    let gate = gate.into();
     let xi = 8 * a;
     let zi = 8 * a + 4;
     let h = gate == One::H;

@@ -15,6 +15,7 @@ ghost use Rattle.probability.specs.Parts.Stating.{weighed_as};
 
 use answers::Refusal;
 use half::Likelihood;
+use packing::Packed;
 use weighing::Stopped;
 
 // A readout is possible, with k and its double; or impossible, since the fixed measurement on this line disagrees, the first that does.
@@ -91,7 +92,11 @@ fn weighed(text: &[u8], body: usize, n: usize, stated: &[u8]) -> Result<Chance, 
     requires { Headed text.now n body }
     ensures { Tells (probability_of text.now stated.now) result }
 {
-    let mut rows = start_rows::start(n);
+    let mut rows = Packed {
+        qubits: n,
+        words: [0; packing::WORDS],
+    };
+    start_rows::start_words(&mut rows.words, n);
     match weighing::weigh(text, body, &mut rows, stated) {
         Ok(passed) => judged(stated, passed.measured, passed.random, None),
         Err(stopped) => halted(text, n, stopped, stated),

@@ -10,6 +10,7 @@ ghost use Rattle.run.specs.Run.{Runs};
 ghost use Rattle.run.specs.Parts.Ran.{judgement, RanAs};
 
 use answers::Refusal;
+use packing::Packed;
 use tally::Tally;
 use walking::Walk;
 
@@ -39,7 +40,15 @@ fn play(text: &[u8], body: usize, n: usize, coins: &[u8], record: &mut [u8]) -> 
     requires { Headed text.now n body }
     ensures { RanAs text.now coins.now «record».old result «record».new }
 {
-    let mut walk = Walk::start(n);
+    let mut walk = Walk {
+        rows: Packed {
+            qubits: n,
+            words: [0; packing::WORDS],
+        },
+        marks: [0; limits::MOST_OPERATIONS],
+        tally: Tally::NONE_YET,
+    };
+    start_rows::start_words(&mut walk.rows.words, n);
     match walk.walk(text, body, coins) {
         Ok(()) => {
             let tally = walk.tally;

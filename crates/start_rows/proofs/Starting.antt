@@ -114,3 +114,15 @@ module _ (n : ℕ) (w : List ℕ) (nl : n ≤ most_qubits) (a : Started n w) whe
     rows = λ s l h. row_eq _ _ (sign s l) (λ j. guarded n (letter_at w s) j I (λ b. a.done j s b l ∙ ap₂ letter (ne_eqb s j (λ r. omega arith)) (ne_eqb s (most_qubits + j) (λ r. omega arith))) (λ b. refl));
     letters = far;
   }
+
+-- words in which nothing is set hold any number of rows
+pub blank_held : (n : ℕ) (w : List ℕ) → n ≤ most_qubits → Words w → ((k : ℕ) → k < word_count → get_or w k 0 ≡ 0) → Holds n w
+unfolding row_at
+blank_held n w nl lw e =
+    let a : Started 0 w = started_none w lw e in
+    let none : (s j : ℕ) → s < row_count → j < most_qubits → letter_at w s j ≡ I = λ s j l h. far 0 w (omega arith) a s j l (omega arith) h in
+    record {
+      words = lw;
+      rows = λ s l h. row_eq _ _ (sign 0 w (omega arith) a s l) (λ j. guarded n (letter_at w s) j I (λ b. none s j l (omega arith)) (λ b. refl));
+      letters = λ s j l h jl. none s j l jl;
+    }

@@ -90,18 +90,6 @@ pub fn resets(after: After) -> bool
 }
 
 impl Walk {
-    // Before the first line, with the start rows of n qubits.
-    pub fn start(n: usize) -> Self
-        requires { n ≤ most_qubits }
-        ensures { Walkable n result }
-    {
-        Walk {
-            rows: start_rows::start(n),
-            marks: [0; limits::MOST_OPERATIONS],
-            tally: Tally::NONE_YET,
-        }
-    }
-
     fn measure(&mut self, reset: bool, a: usize, coins: &[u8]) -> Option<()>
         requires { HasRoom coins.now self.old.tally × (a < self.old.rows.qubits) }
         ensures { MeasureAs (following reset) a coins.now self.old result self.new }

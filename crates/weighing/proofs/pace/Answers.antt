@@ -6,6 +6,7 @@ use Prim.Native.Nat.{◌+◌, ◌≤◌}
 use native.Mathlib.Omega.{arith}
 use Rattle.std.specs.Prelude.{Some}
 use Rattle.clifford.specs.declared.Gate.TheVariants.{One as one, Two as two}
+use Rattle.columns.proofs.Gates.{as_given}
 use Rattle.packing.specs.declared.Packed.{Packed}
 use Rattle.tally.specs.Tally.{one_if}
 use Rattle.walking.specs.Parts.Walk.{following}
@@ -26,7 +27,7 @@ returns-in_err-op c = rw c.from_residual.ensures (record { same = refl; is = λ 
 pub invariant_of-rows : goal.invariant_of-rows
 invariant_of-rows c =
     let r = c.args.rows.now in
-    record { few = r.few; holds = gate_holds c.args.text.now c.args.at r.qubits (one c.in-One.gate c.in-One.a) c.in_ok-op.size r.words _ r.few (rw c.in-One.is at c.in_ok-op.ensures) c.one.ensures r.holds }
+    record { few = r.few; holds = gate_holds c.args.text.now c.args.at r.qubits (one c.in-One.gate c.in-One.a) c.in_ok-op.size r.words _ r.few (rw c.in-One.is at c.in_ok-op.ensures) (as_given c.in-One.gate c.in-One.a _ _ c.one.ensures) r.holds }
 
 pub invariant_of-rows-in-Two : goal.invariant_of-rows-in-Two
 invariant_of-rows-in-Two c =
@@ -49,7 +50,7 @@ returns c =
       | in-One v ↦
           subst (λ r'. Done r' c.match-op.more) (sym v.rows-is) (subst (Done _) (sym v.more-is) (record {
             same = refl;
-            is = paced_gate c.args.text.now c.args.at r.qubits c.args.stated.now r.words c.args.passed c.in_ok-op.size (one v.in-One.gate v.in-One.a) _ r.few r.holds (rw v.in-One.is at c.in_ok-op.ensures) v.one.ensures;
+            is = paced_gate c.args.text.now c.args.at r.qubits c.args.stated.now r.words c.args.passed c.in_ok-op.size (one v.in-One.gate v.in-One.a) _ r.few r.holds (rw v.in-One.is at c.in_ok-op.ensures) (as_given v.in-One.gate v.in-One.a _ _ v.one.ensures);
           }))
       | in-Two v ↦
           subst (λ r'. Done r' c.match-op.more) (sym v.rows-is) (subst (Done _) (sym v.more-is) (record {

@@ -4,6 +4,7 @@ use native.Mathlib.Omega.{arith}
 use Prim.Native.Nat.{◌+◌}
 use Rattle.std.specs.Prelude.{Some}
 use Rattle.clifford.specs.declared.Gate.TheVariants.{One as one, Two as two}
+use Rattle.columns.proofs.Gates.{as_given}
 use Rattle.walking.specs.declared.Walk.{Walk}
 use Rattle.walking.specs.Parts.Walk.{following, Goes}
 use Rattle.walking.proofs.Views.{gate_step, gate_holds, measure_step}
@@ -13,7 +14,7 @@ use Rattle.walking.proofs.Walk.turn.Goals.{in-One, in-Two, in-Measure+in_ok-ok_o
 pub invariant_of-self : goal.invariant_of-self
 invariant_of-self c =
     let r = c.args.self.now.rows in
-    record { few = r.few; holds = gate_holds c.args.text.now c.args.at r.qubits (one c.in-One.gate c.in-One.a) c.in-Some.size r.words _ r.few (rw c.in-One.is at c.in-Some.ensures) c.one.ensures r.holds }
+    record { few = r.few; holds = gate_holds c.args.text.now c.args.at r.qubits (one c.in-One.gate c.in-One.a) c.in-Some.size r.words _ r.few (rw c.in-One.is at c.in-Some.ensures) (as_given c.in-One.gate c.in-One.a _ _ c.one.ensures) r.holds }
 
 pub invariant_of-self-in-Two : goal.invariant_of-self-in-Two
 invariant_of-self-in-Two c =
@@ -27,7 +28,7 @@ returns c =
     let Done : Walk → Type 0 = λ s. (s.rows.qubits ≡ r.qubits) × Goes c.args.text.now c.args.at r.qubits c.args.coins.now r.words w.marks w.tally (c.args.at + c.in-Some.size) s.rows.words s.marks s.tally in
     elim c.match-op.branch [
       | in-One v ↦
-          subst Done (sym v.self-is) (refl, gate_step c.args.text.now c.args.at r.qubits (one v.in-One.gate v.in-One.a) c.in-Some.size r.words _ r.few (rw v.in-One.is at c.in-Some.ensures) v.one.ensures c.args.coins.now w.marks w.tally)
+          subst Done (sym v.self-is) (refl, gate_step c.args.text.now c.args.at r.qubits (one v.in-One.gate v.in-One.a) c.in-Some.size r.words _ r.few (rw v.in-One.is at c.in-Some.ensures) (as_given v.in-One.gate v.in-One.a _ _ v.one.ensures) c.args.coins.now w.marks w.tally)
       | in-Two v ↦
           subst Done (sym v.self-is) (refl, gate_step c.args.text.now c.args.at r.qubits (two v.in-Two.gate v.in-Two.a v.in-Two.b) c.in-Some.size r.words _ r.few (rw v.in-Two.is at c.in-Some.ensures) v.two.ensures c.args.coins.now w.marks w.tally)
       | in-Measure+in_ok-ok_or-in-Measure v ↦
