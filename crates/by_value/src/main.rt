@@ -3,7 +3,8 @@
 #![tactic(auto)]
 
 use clifford::{Gate, One};
-use std::{env, io};
+use std::env::Env;
+use std::io;
 use tableau::Tableau;
 
 fn by_gates(rounds: usize) -> u64 {
@@ -32,11 +33,12 @@ fn lent(rounds: usize) -> u64 {
     words[0] ^ words[6]
 }
 
+// The first word counts by its length alone: four bytes as `lent`, five as `value`.
 fn main(rt: HostRuntime) -> io::Result<()> {
-    let word = env::args(&rt)?.nth(1);
-    let done = match word.as_ref().map(|w| w.as_str()) {
-        Some("lent") => lent(10_000_000),
-        Some("value") => by_gates(100_000),
+    let mut word = [0u8; 4096];
+    let done = match rt.arg(1, &mut word) {
+        Ok(4) => lent(10_000_000),
+        Ok(5) => by_gates(100_000),
         _ => by_measurements(100_000),
     };
     println!(rt; "{done}")

@@ -1,8 +1,9 @@
 // What the programs behind `./senghovai` share: the words of the command line, reading a circuit, coins or the tail of an archive, writing a record at the back
-// of a file here and in a file's place in `replacing`, and how a program ends that cannot go on. Files are read up to a limit, so that an archive may have any size.
+// of a file here and in a file's place in `replacing`, and how a program ends that cannot go on. Files are read up to a limit into arrays that the programs lend, so
+// that an archive may have any size and no memory is asked for while all goes well.
 #![tactic(auto)]
 
-ghost use Rattle.std.specs.Prelude.{◌+◌, ◌*◌, ◌≤◌, IfOk, IfSome, vec_len};
+ghost use Rattle.std.specs.Prelude.{◌+◌, ◌*◌, ◌<◌, ◌≤◌, IfOk, IfSome, length};
 ghost use Rattle.limits.specs.Limits.{most_operations, most_qubits};
 
 mod replacing;
@@ -14,12 +15,14 @@ use std::io::{Error, ErrorKind, Read, Seek, SeekFrom, Write};
 use std::rt::Files;
 use std::{fs, io};
 
-// The longest name of a file has 4,095 bytes.
-const LONGEST_WORD: usize = 4096;
+// Room for a word of the command line: the longest name of a file has 4,095 bytes.
+pub const LONGEST_WORD: usize = 4096;
 
-const LONGEST_CIRCUIT: u32 = 131_072;
+// One byte more than the longest circuit file, which tells that a file is longer.
+pub const CIRCUIT_ROOM: usize = 131_073;
 
-const MOST_COINS: u32 = 65_536;
+// One byte more than the longest coin file.
+pub const COIN_ROOM: usize = 65_537;
 
 // Why a program ends before its work is done: a line on standard error has said it, or reading or printing failed.
 #[derive(Debug, Drop)]
@@ -60,12 +63,7 @@ fn words(told: &str) -> &str {
         .map_or(told, |(words, _)| words)
 }
 
-fn say_cannot<R: Eprint + AllocGlobal>(
-    rt: &R,
-    what: &str,
-    name: &[u8],
-    why: Error,
-) -> io::Result<()> {
+fn say_cannot<R: Eprint + Alloc>(rt: &R, what: &str, name: &[u8], why: Error) -> io::Result<()> {
     let name = String::from_utf8_lossy(rt.alloc(), name)?;
     let told = format!(in rt.alloc(); "{why}")?;
     let why = words(told.as_str());
@@ -73,19 +71,16 @@ fn say_cannot<R: Eprint + AllocGlobal>(
 }
 
 // One line on standard error: what could not be done, to which file, and why.
-fn cannot<R: Eprint + AllocGlobal>(rt: &R, what: &str, name: &[u8], why: Error) -> Quit {
+fn cannot<R: Eprint + Alloc>(rt: &R, what: &str, name: &[u8], why: Error) -> Quit {
     said(say_cannot(rt, what, name, why))
 }
 
-// The i-th word of the command line; none where it is missing or longer than any name.
-pub fn word<R: Env + AllocGlobal>(rt: &R, i: usize) -> io::Result<Option<Vec<u8>>>
-    ensures { IfOk result (λ word. IfSome word (λ bytes. vec_len bytes ≤ LONGEST_WORD)) }
+// The i-th word of the command line, at the front of the lent buffer; none where it is missing or has no room there.
+pub fn word<'b>(rt: &impl Env, i: usize, buf: &'b mut [u8]) -> Option<&'b [u8]>
+    ensures { IfSome result (λ word. length word.now ≤ length buf.old) }
 {
-    let mut buf = [0u8; LONGEST_WORD];
-    match rt.arg(i, &mut buf) {
-        Ok(n) => Ok(Some(buf[..n].to_vec(rt.alloc())?)),
-        Err(_) => Ok(None),
-    }
+    let n = rt.arg(i, buf).ok()?;
+    Some(&buf[..n])
 }
 
 // The name as a path of std, which has to be UTF-8.
@@ -109,53 +104,80 @@ fn read_one<F: Read + Seek>(file: &mut F) -> io::Result<()> {
 }
 
 // The file that the i-th word names, for reading. Only a file that can be read from any place is taken.
-pub fn open_word<R: Files + Env + Eprint + AllocGlobal>(rt: &R, i: usize) -> Result<R::File, Quit> {
-    let name = word(rt, i)?.ok_or_else(|| no_name(rt))?;
-    let mut file = open_read(rt, &name).map_err(|why| cannot(
+pub fn open_word<R: Files + Env + Eprint + Alloc>(rt: &R, i: usize) -> Result<R::File, Quit> {
+    let mut buf = [0u8; LONGEST_WORD];
+    let name = word(rt, i, &mut buf).ok_or_else(|| no_name(rt))?;
+    let mut file = open_read(rt, name).map_err(|why| cannot(
         rt,
         "cannot open, name a file that can be read",
-        &name,
+        name,
         why,
     ))?;
-    read_one(&mut file).map_err(|why| cannot(rt, "cannot read, name a regular file", &name, why))?;
+    read_one(&mut file).map_err(|why| cannot(rt, "cannot read, name a regular file", name, why))?;
     Ok(file)
 }
 
-// The bytes of the file that the i-th word names, which may have so many.
-fn read_at_most<R: Files + Env + Eprint + AllocGlobal>(
+// Reads from the file's position until the buffer is full or the file ends, and closes it.
+fn fill<F: Read + Drop>(mut file: F, buf: &mut [u8]) -> io::Result<&[u8]>
+    ensures { IfOk result (λ bytes. length bytes.now ≤ length buf.old) }
+{
+    let mut done = 0;
+    while done < buf.len() {
+        let n = file.read(&mut buf[done..])?;
+        if n == 0 {
+            break;
+        }
+        done += n;
+    }
+    Ok(&buf[..done])
+}
+
+// The bytes of the file that the i-th word names, which has fewer than there is room for.
+fn read_below<'b, R: Files + Env + Eprint + Alloc>(
     rt: &R,
     i: usize,
-    most: u32,
+    room: &'b mut [u8],
     too_long: &str,
-) -> Result<Vec<u8>, Quit>
-    ensures { IfOk result (λ bytes. vec_len bytes ≤ most) }
+) -> Result<&'b [u8], Quit>
+    requires { 0 < length room.old }
+    ensures { IfOk result (λ bytes. length bytes.now < length room.old) }
 {
     let file = open_word(rt, i)?;
-    let mut bytes = Vec::new(rt.alloc());
-    let n = file.take(u64::from(most) + 1).read_to_end(&mut bytes)?;
-    if n > most as usize {
+    let most = room.len() - 1;
+    let bytes = fill(file, room)?;
+    if most < bytes.len() {
         return Err(said(eprintln!(rt; "{too_long}: give a file of at most {most} bytes")));
     }
     Ok(bytes)
 }
 
 // The circuit of the file that the first word names.
-pub fn circuit<R: Files + Env + Eprint + AllocGlobal>(rt: &R) -> Result<Vec<u8>, Quit>
-    ensures { IfOk result (λ bytes. vec_len bytes ≤ LONGEST_CIRCUIT) }
+pub fn circuit<'b, R: Files + Env + Eprint + Alloc>(
+    rt: &R,
+    room: &'b mut [u8; CIRCUIT_ROOM],
+) -> Result<&'b [u8], Quit>
+    ensures { IfOk result (λ bytes. length bytes.now < CIRCUIT_ROOM) }
 {
-    read_at_most(rt, 1, LONGEST_CIRCUIT, "the circuit is too long")
+    read_below(rt, 1, room, "the circuit is too long")
 }
 
 // The coins of the file that the second word names.
-pub fn coins<R: Files + Env + Eprint + AllocGlobal>(rt: &R) -> Result<Vec<u8>, Quit>
-    ensures { IfOk result (λ bytes. vec_len bytes ≤ MOST_COINS) }
+pub fn coins<'b, R: Files + Env + Eprint + Alloc>(
+    rt: &R,
+    room: &'b mut [u8; COIN_ROOM],
+) -> Result<&'b [u8], Quit>
+    ensures { IfOk result (λ bytes. length bytes.now < COIN_ROOM) }
 {
-    read_at_most(rt, 2, MOST_COINS, "there are too many coins")
+    read_below(rt, 2, room, "there are too many coins")
 }
 
 // As many bytes as the longest record has at the end of the file that the i-th word names, or all of it where there are fewer.
-pub fn tail<R: Files + Env + Eprint + AllocGlobal>(rt: &R, i: usize) -> Result<Vec<u8>, Quit>
-    ensures { IfOk result (λ bytes. vec_len bytes ≤ most_operations + 2 * most_qubits * (1 + most_qubits) + 12) }
+pub fn tail<'b, R: Files + Env + Eprint + Alloc>(
+    rt: &R,
+    i: usize,
+    room: &'b mut [u8; limits::LONGEST_RECORD],
+) -> Result<&'b [u8], Quit>
+    ensures { IfOk result (λ bytes. length bytes.now ≤ most_operations + 2 * most_qubits * (1 + most_qubits) + 12) }
 {
     let mut file = open_word(rt, i)?;
     if file
@@ -164,11 +186,7 @@ pub fn tail<R: Files + Env + Eprint + AllocGlobal>(rt: &R, i: usize) -> Result<V
     {
         file.seek(SeekFrom::Start(0))?;
     }
-    let mut bytes = Vec::new(rt.alloc());
-    file.take(limits::LONGEST_RECORD as u64)
-        .read_to_end(&mut bytes)?;
-    bytes.truncate(limits::LONGEST_RECORD);
-    Ok(bytes)
+    Ok(fill(file, room)?)
 }
 
 // Prints the bytes as a line.
@@ -187,22 +205,19 @@ fn open_back<R: Files>(rt: &R, name: &[u8]) -> io::Result<R::File> {
 }
 
 // Puts the bytes at the back of the file that the i-th word names.
-pub fn append<R: Files + Env + Eprint + AllocGlobal>(
-    rt: &R,
-    i: usize,
-    bytes: &[u8],
-) -> Result<(), Quit> {
-    let name = word(rt, i)?.unwrap_or(Vec::new(rt.alloc()));
-    let mut file = open_back(rt, &name).map_err(|why| cannot(
+pub fn append<R: Files + Env + Eprint + Alloc>(rt: &R, i: usize, bytes: &[u8]) -> Result<(), Quit> {
+    let mut buf = [0u8; LONGEST_WORD];
+    let name = word(rt, i, &mut buf).unwrap_or(b"");
+    let mut file = open_back(rt, name).map_err(|why| cannot(
         rt,
         "cannot write, name a file that can be written",
-        &name,
+        name,
         why,
     ))?;
     file.write_all(bytes).map_err(|why| cannot(
         rt,
         "written in part, make room and do it again",
-        &name,
+        name,
         why,
     ))
 }

@@ -6,9 +6,10 @@ use std::io;
 use std::rt::Files;
 use tool::Quit;
 
-fn check<R: Files + Env + Print + Eprint + AllocGlobal>(rt: &R) -> Result<(), Quit> {
-    let text = tool::circuit(rt)?;
-    match library::check(&text) {
+fn check<R: Files + Env + Print + Eprint + Alloc>(rt: &R) -> Result<(), Quit> {
+    let mut room = [0u8; tool::CIRCUIT_ROOM];
+    let text = tool::circuit(rt, &mut room)?;
+    match library::check(text) {
         Ok(size) => println!(rt; "{} qubits, {} operations", size.qubits, size.operations)?,
         Err(r) => rt.println(r)?,
     }

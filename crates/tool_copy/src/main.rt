@@ -6,10 +6,11 @@ use std::io;
 use std::rt::Files;
 use tool::Quit;
 
-fn copy<R: Files + Env + Print + Eprint + AllocGlobal>(rt: &R) -> Result<(), Quit> {
-    let bytes = tool::tail(rt, 1)?;
+fn copy<R: Files + Env + Print + Eprint + Alloc>(rt: &R) -> Result<(), Quit> {
+    let mut room = [0u8; limits::LONGEST_RECORD];
+    let bytes = tool::tail(rt, 1, &mut room)?;
     let mut out = [0u8; limits::LONGEST_RECORD];
-    match library::copy(&bytes, &mut out) {
+    match library::copy(bytes, &mut out) {
         Ok(size) => tool::save(rt, 2, &out[..size])?,
         Err(r) => rt.println(r)?,
     }

@@ -13,11 +13,11 @@ fn multiply(rt: &impl Print, first: &[u8], second: &[u8]) -> io::Result<()> {
 
 // A word that is missing or has more than 4,096 bytes counts as an empty row: both are refused for their length.
 fn main(rt: HostRuntime) -> io::Result<()> {
-    let first = tool::word(&rt, 1)?;
-    let second = tool::word(&rt, 2)?;
+    let mut first = [0u8; tool::LONGEST_WORD];
+    let mut second = [0u8; tool::LONGEST_WORD];
     multiply(
         &rt,
-        first.as_deref().unwrap_or(b""),
-        second.as_deref().unwrap_or(b""),
+        tool::word(&rt, 1, &mut first).unwrap_or(b""),
+        tool::word(&rt, 2, &mut second).unwrap_or(b""),
     )
 }

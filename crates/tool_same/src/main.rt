@@ -12,10 +12,12 @@ fn refuse(rt: &impl Print, which: &str, r: Refusal) -> io::Result<()> {
     println!(rt; "refused {which} {} {}", r.number(), r.place())
 }
 
-fn compare<R: Files + Env + Print + Eprint + AllocGlobal>(rt: &R) -> Result<(), Quit> {
-    let first = tool::tail(rt, 1)?;
-    let second = tool::tail(rt, 2)?;
-    match library::same_state(&first, &second) {
+fn compare<R: Files + Env + Print + Eprint + Alloc>(rt: &R) -> Result<(), Quit> {
+    let mut first_room = [0u8; limits::LONGEST_RECORD];
+    let first = tool::tail(rt, 1, &mut first_room)?;
+    let mut second_room = [0u8; limits::LONGEST_RECORD];
+    let second = tool::tail(rt, 2, &mut second_room)?;
+    match library::same_state(first, second) {
         Ok(true) => rt.println("same")?,
         Ok(false) => rt.println("different")?,
         Err(Unread::First(r)) => refuse(rt, "first", r)?,

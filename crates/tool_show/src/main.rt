@@ -8,10 +8,11 @@ use tool::Quit;
 
 // The rows stand between the outcomes and the trailer.
 #[tactic(auto, using(crate::proofs::Sizes::handed_sizes))]
-fn show<R: Files + Env + Print + Eprint + AllocGlobal>(rt: &R) -> Result<(), Quit> {
-    let bytes = tool::tail(rt, 1)?;
+fn show<R: Files + Env + Print + Eprint + Alloc>(rt: &R) -> Result<(), Quit> {
+    let mut room = [0u8; limits::LONGEST_RECORD];
+    let bytes = tool::tail(rt, 1, &mut room)?;
     let mut words = [0u64; packing::WORDS];
-    match library::read(&bytes, &mut words) {
+    match library::read(bytes, &mut words) {
         Ok(record) => {
             tool::print_line(rt, record.outcomes)?;
             let start = bytes.len() - record.size + record.outcomes.len();
