@@ -1,6 +1,6 @@
 -- Two answers that a promise of the reader allows are equal, the lent words too. Assumes nothing.
 use mathlib.Core.Path.{◌≡◌, refl, sym, ◌∙◌, ap, subst}
-use mathlib.Core.List.{List}
+use mathlib.Core.List.{List, [], ◌∷◌}
 use Prim.Native.Nat.{ℕ, ◌-◌, ◌^◌, ◌≤◌, ◌<◌}
 use native.Mathlib.Omega.{arith}
 use lib.ListN.{length, get_or, take, drop, length-drop}
@@ -15,7 +15,7 @@ use Rattle.reading.specs.declared.Last.{Last}
 use Rattle.reading.specs.declared.Record.{Record}
 use Rattle.std.specs.Prelude.{Result, Ok, Err}
 use Rattle.answers.specs.declared.Refusal.{Refusal}
-use Rattle.answers.specs.Refusals.{told}
+use Rattle.answers.specs.Refusals.{number_of, place_of, told}
 use Rattle.reading.specs.Answer.{told_read, qubits_held, Besides, Reads, read_from, handed, Hands}
 use Rattle.reading.proofs.Most.{accepted_most}
 
@@ -30,13 +30,40 @@ few_qubits s = go (read_of s) refl
     go (accepted r) e = accepted_most s r e
     go (refused number place) e = omega arith
 
--- what is handed out of the bytes: the outcomes, the record's length and n, or the same refusal
+-- the outcomes that are handed out; at a refusal none
+abbrev pub outcomes_told : Result Record Refusal → List ℕ
+outcomes_told (Ok h) = h.outcomes.now
+outcomes_told (Err why) = []
+
+-- a refusal's number and place, or zeros; the record's length and n, or zeros
+abbrev pub numbers_told : Result Record Refusal → List ℕ
+numbers_told (Ok h) = 0 ∷ 0 ∷ h.size ∷ h.qubits ∷ []
+numbers_told (Err why) = number_of why ∷ place_of why ∷ 0 ∷ 0 ∷ []
+
+-- the same, as the definition of the record in the bytes says it
+abbrev in_numbers : Verdict Read → List ℕ
+in_numbers (accepted r) = 0 ∷ 0 ∷ r.size ∷ r.qubits ∷ []
+in_numbers (refused number place) = number ∷ place ∷ 0 ∷ 0 ∷ []
+
+module _ (w : List ℕ) where
+  outcomes_read : (r : Result Record Refusal) → outcomes_told r ≡ (handed (then (told r) (λ h. accepted (read_from w h)))).marks
+  outcomes_read (Ok h) = refl
+  outcomes_read (Err why) = refl
+
+  numbers_read : (r : Result Record Refusal) → numbers_told r ≡ in_numbers (then (told r) (λ h. accepted (read_from w h)))
+  numbers_read (Ok h) = refl
+  numbers_read (Err why) = refl
+
+-- what is handed out of the bytes: the outcomes, the words, the numbers; and all of it at once, the record or the same refusal
 pub hands_one : (s : List ℕ) (r r' : Result Record Refusal) (w w' : List ℕ) → Of64Bits w → Of64Bits w' → Hands s r w → Hands s r' w'
-    → (then (told r) (λ h. accepted (read_from w h)) ≡ then (told r') (λ h. accepted (read_from w' h))) × (w ≡ w')
-hands_one s r r' w w' f f' a b = (
-  a.answer ∙ sym b.answer,
-  determined (handed (read_of s)).qubits (few_qubits s) w w' a.holds b.holds (a.rows ∙ sym b.rows) f f',
-)
+    → (outcomes_told r ≡ outcomes_told r') × (w ≡ w') × (numbers_told r ≡ numbers_told r') × (then (told r) (λ h. accepted (read_from w h)) ≡ then (told r') (λ h. accepted (read_from w' h)))
+hands_one s r r' w w' f f' a b =
+    let e : then (told r) (λ h. accepted (read_from w h)) ≡ then (told r') (λ h. accepted (read_from w' h)) = a.answer ∙ sym b.answer in (
+      outcomes_read w r ∙ ap (λ v. (handed v).marks) e ∙ sym (outcomes_read w' r'),
+      determined (handed (read_of s)).qubits (few_qubits s) w w' a.holds b.holds (a.rows ∙ sym b.rows) f f',
+      numbers_read w r ∙ ap in_numbers e ∙ sym (numbers_read w' r'),
+      e,
+    )
 
 -- ---- answers by their cases
 
@@ -64,15 +91,15 @@ module _ (s v w : List ℕ) where
       λ i. Ok (record { start = p i; outcomes = q i; qubits = r i })
   one_found (Ok l) (Err why) e a b = never _ _ _ e
   one_found (Err why) (Ok l) e a b = never _ _ _ (sym e)
-  one_found (Err why) (Err why') e a b = ap Err (one_refusal why why' (ap number_of e) (ap place_of e))
+  one_found (Err why) (Err why') e a b = ap Err (one_refusal why why' (ap number_in e) (ap place_in e))
     where
-      number_of : Verdict Read → ℕ
-      number_of (accepted r) = 0
-      number_of (refused number place) = number
+      number_in : Verdict Read → ℕ
+      number_in (accepted r) = 0
+      number_in (refused number place) = number
 
-      place_of : Verdict Read → ℕ
-      place_of (accepted r) = 0
-      place_of (refused number place) = place
+      place_in : Verdict Read → ℕ
+      place_in (accepted r) = 0
+      place_in (refused number place) = place
 
 pub reads_one : (s : List ℕ) (a b : Result Last Refusal) (v w : List ℕ) → Of64Bits v → Of64Bits w → Reads s a v → Reads s b w → (a ≡ b) × (v ≡ w)
 reads_one s a b v w fv fw ra rb =
